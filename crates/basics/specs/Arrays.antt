@@ -1,0 +1,79 @@
+-- Arrays whose elements count from 1: element 0, and an element past the last, is 0, and a store there changes nothing.
+-- Assumes nothing.
+use mathlib.Core.Path.{_≡_, refl, sym, ap, _∙_}
+use mathlib.Core.Logic.{_≢_}
+use mathlib.Core.List.{List, [], _∷_}
+use Prim.Native.Nat.{ℕ, zero, suc, _+_, _≤_, _<_}
+use native.Mathlib.Numerals.{add-one}
+use native.Mathlib.Omega.{arith}
+use native.Mathlib.Decide.{decLe}
+use lib.ListN.{length, getD, set, length-set, List·getD-eq-default}
+use lib.Seq.{getD-set-same, getD-set-other}
+
+-- element k
+abbrev pub at : List ℕ → ℕ → ℕ
+at xs zero = 0
+at xs (suc i) = getD xs i 0
+
+-- the array with v as element k
+abbrev pub put : List ℕ → ℕ → ℕ → List ℕ
+put xs zero v = xs
+put xs (suc i) v = set xs i v
+
+-- the array with the first n elements gone through f
+unfoldable pub mapped : (ℕ → ℕ) → ℕ → List ℕ → List ℕ
+mapped f zero xs = xs
+mapped f (suc n) [] = []
+mapped f (suc n) (x ∷ xs) = f x ∷ mapped f n xs
+
+-- ---- an element after a store
+
+pub at-put-same : (xs : List ℕ) (k v : ℕ) → 1 ≤ k → k ≤ length xs → at (put xs k v) k ≡ v
+at-put-same xs zero v a b = absurd (omega arith)
+at-put-same xs (suc k) v a b = getD-set-same xs k v 0 (omega arith)
+
+pub at-put-other : (xs : List ℕ) (k v i : ℕ) → k ≢ i → at (put xs k v) i ≡ at xs i
+at-put-other xs zero v i d = refl
+at-put-other xs (suc k) v zero d = refl
+at-put-other xs (suc k) v (suc i) d = getD-set-other xs k i v 0 (λ e. d (ap suc (sym e)))
+
+pub length-put : (xs : List ℕ) (k v : ℕ) → length (put xs k v) ≡ length xs
+length-put xs zero v = refl
+length-put xs (suc k) v = length-set xs k v
+
+-- past the last element there is nothing
+pub at-out : (xs : List ℕ) (n i : ℕ) → length xs ≡ n → ¬ ((1 ≤ i) × (i ≤ n)) → at xs i ≡ 0
+at-out xs n zero e d = refl
+at-out xs n (suc i) e d = List·getD-eq-default xs 0 (outside (decLe n i))
+  where
+    outside : Dec (n ≤ i) → length xs ≤ i
+    outside (yes l) = omega arith
+    outside (no l) = absurd (d (omega arith))
+
+-- ---- an array gone through f
+
+pub mapped-more : (f : ℕ → ℕ) (n : ℕ) (xs : List ℕ) → set (mapped f n xs) n (f (getD (mapped f n xs) n 0)) ≡ mapped f (n + 1) xs
+unfolding mapped
+mapped-more f n xs = rw (add-one n) (more n xs)
+  where
+    more : (n : ℕ) (xs : List ℕ) → set (mapped f n xs) n (f (getD (mapped f n xs) n 0)) ≡ mapped f (suc n) xs
+    more zero [] = refl
+    more (suc n) [] = refl
+    more zero (x ∷ xs) = refl
+    more (suc n) (x ∷ xs) = ap {B = List ℕ} (λ r. f x ∷ r) (more n xs)
+
+pub length-mapped : (f : ℕ → ℕ) (n : ℕ) (xs : List ℕ) → length (mapped f n xs) ≡ length xs
+unfolding mapped
+length-mapped f zero xs = refl
+length-mapped f (suc n) [] = refl
+length-mapped f (suc n) (x ∷ xs) = ap suc (length-mapped f n xs)
+
+-- where f leaves 0 as it is and there are n elements, each element goes through f
+pub at-mapped : (f : ℕ → ℕ) (n : ℕ) (xs : List ℕ) (k : ℕ) → f 0 ≡ 0 → length xs ≡ n → at (mapped f n xs) k ≡ f (at xs k)
+unfolding mapped
+at-mapped f n xs zero z e = sym z
+at-mapped f zero [] (suc i) z e = sym z
+at-mapped f zero (x ∷ xs) (suc i) z e = absurd (omega arith)
+at-mapped f (suc n) [] (suc i) z e = sym z
+at-mapped f (suc n) (x ∷ xs) (suc zero) z e = refl
+at-mapped f (suc n) (x ∷ xs) (suc (suc i)) z e = at-mapped f n xs (suc i) z (omega arith)

@@ -1,0 +1,4 @@
+-- What the specifications of all crates are written with: choices by a test, loops over 1, .., n, arrays counted from 1.
+pub mod Choice
+pub mod Loops
+pub mod Arrays

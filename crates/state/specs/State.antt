@@ -1,0 +1,170 @@
+-- What a state says, and its changes: the definitions that alone know the layout of the record `State`.
+-- Assumes nothing.
+use Prim.Native.Nat.{ℕ, _+_, _*_, _/_, _%_}
+use mathlib.Core.Bool.{Bool, not, _||_}
+use mathlib.Core.List.{List}
+use lib.Dec.{eqb}
+use lib.ListN.{replicate}
+use Rattle.basics.specs.Choice.{if_then_else_, between}
+use Rattle.basics.specs.Arrays.{at, put, mapped}
+use Rattle.ranks.specs.Ranks.{member, with, without, union}
+use Rattle.state.specs.declared.State.{State}
+
+-- how many ranks, objects and processors there can be
+use Rattle.ranks.specs.Ranks.{limit}
+
+abbrev pub mostObjects : ℕ
+mostObjects = 128
+
+abbrev pub mostProcessors : ℕ
+mostProcessors = 8
+
+-- modes of a lock: 1 read, 2 write
+abbrev pub read : ℕ
+read = 1
+
+abbrev pub write : ℕ
+write = 2
+
+-- ---- the table
+
+abbrev pub isRank : State → ℕ → Bool
+isRank s r = between 1 (s .jobs) r
+
+abbrev pub isObject : State → ℕ → Bool
+isObject s o = between 1 (s .objects) o
+
+abbrev pub processorOf : State → ℕ → ℕ
+processorOf s r = at (s .«processor_of») r
+
+-- of two sets, that of the mode
+abbrev pub ofMode : ℕ → ℕ → ℕ → ℕ
+ofMode m reading writing = if eqb m read then reading else writing
+
+-- the ranks that are declared to lock object o in a mode
+abbrev pub declared : State → ℕ → ℕ → ℕ
+declared s m o = ofMode m (at (s .«may_read») o) (at (s .«may_write») o)
+
+-- the ranks that are declared to read or write object o
+abbrev pub declaredAny : State → ℕ → ℕ
+declaredAny s o = union (declared s read o) (declared s write o)
+
+abbrev pub mayLock : State → ℕ → ℕ → ℕ → Bool
+mayLock s m r o = member (declared s m o) r
+
+-- ---- the locks
+
+-- the ranks that hold object o in a mode
+abbrev pub holders : State → ℕ → ℕ → ℕ
+holders s m o = ofMode m (at (s .readers) o) (at (s .writers) o)
+
+-- the ranks that hold a lock of either mode on object o
+abbrev pub holdersAny : State → ℕ → ℕ
+holdersAny s o = union (holders s read o) (holders s write o)
+
+abbrev pub holds : State → ℕ → ℕ → ℕ → Bool
+holds s m r o = member (holders s m o) r
+
+abbrev pub holdsAny : State → ℕ → ℕ → Bool
+holdsAny s r o = holds s read r o || holds s write r o
+
+-- refusal 17: "that lock or the write lock already held"
+abbrev pub holdsAlready : State → ℕ → ℕ → ℕ → Bool
+holdsAlready s m r o = holds s m r o || holds s write r o
+
+-- ---- the jobs
+
+abbrev pub isActive : State → ℕ → Bool
+isActive s r = member (s .active) r
+
+-- r carries the mark of unlocking: it has unlocked in its run
+abbrev pub hasUnlocked : State → ℕ → Bool
+hasUnlocked s r = member (s .unlocked) r
+
+-- the request that r waits for, as mode * 256 + object; 0 if it does not wait
+abbrev pub requestOf : State → ℕ → ℕ
+requestOf s r = at (s .request) r
+
+abbrev pub requestFor : ℕ → ℕ → ℕ
+requestFor m o = m * 256 + o
+
+abbrev pub modeIn : ℕ → ℕ
+modeIn request = request / 256
+
+abbrev pub objectIn : ℕ → ℕ
+objectIn request = request % 256
+
+abbrev pub isWaiting : State → ℕ → Bool
+isWaiting s r = not (eqb (requestOf s r) 0)
+
+abbrev pub requestedMode : State → ℕ → ℕ
+requestedMode s r = modeIn (requestOf s r)
+
+abbrev pub requestedObject : State → ℕ → ℕ
+requestedObject s r = objectIn (requestOf s r)
+
+-- ---- a state from its parts
+
+abbrev pub stateOf : ℕ → ℕ → ℕ → List ℕ → List ℕ → List ℕ → ℕ → ℕ → List ℕ → List ℕ → List ℕ → State
+stateOf p j o ps mr mw a u rs ws q = record {
+  processors = p;
+  jobs = j;
+  objects = o;
+  «processor_of» = ps;
+  «may_read» = mr;
+  «may_write» = mw;
+  active = a;
+  unlocked = u;
+  readers = rs;
+  writers = ws;
+  request = q;
+}
+
+abbrev pub zeros : ℕ → List ℕ
+zeros n = replicate n 0
+
+-- 01, Table bytes: "A fresh state has all 128 objects unlocked and every job idle."
+abbrev pub freshState : ℕ → ℕ → ℕ → List ℕ → List ℕ → List ℕ → State
+freshState p j o ps mr mw = stateOf p j o ps mr mw 0 0 (zeros mostObjects) (zeros mostObjects) (zeros limit)
+
+-- 01, Refusals: a state "whose numbers are all 0"
+abbrev pub zeroState : State
+zeroState = freshState 0 0 0 (zeros limit) (zeros mostObjects) (zeros mostObjects)
+
+-- the same table with these active jobs, marks of unlocking, readers, writers and requests
+abbrev pub withLocks : State → ℕ → ℕ → List ℕ → List ℕ → List ℕ → State
+withLocks s a u rs ws q = stateOf (s .processors) (s .jobs) (s .objects) (s .«processor_of») (s .«may_read») (s .«may_write») a u rs ws q
+
+-- ---- changes
+
+-- r becomes active
+unfoldable pub activate : State → ℕ → State
+activate s r = withLocks s (with (s .active) r) (s .unlocked) (s .readers) (s .writers) (s .request)
+
+-- r waits for a lock
+unfoldable pub await : State → ℕ → ℕ → ℕ → State
+await s m r o = withLocks s (s .active) (s .unlocked) (s .readers) (s .writers) (put (s .request) r (requestFor m o))
+
+-- r gets a lock and waits no longer; a write lock replaces its read lock
+unfoldable pub grant : State → ℕ → ℕ → ℕ → State
+grant s m r o =
+    withLocks s (s .active) (s .unlocked)
+    (put (s .readers) o (if eqb m read then with (holders s read o) r else without (holders s read o) r))
+    (if eqb m read then s .writers else put (s .writers) o (with (holders s write o) r))
+    (put (s .request) r 0)
+
+-- r gives up its lock on o, and is marked
+unfoldable pub release : State → ℕ → ℕ → State
+release s r o =
+    withLocks s (s .active) (with (s .unlocked) r)
+    (put (s .readers) o (without (holders s read o) r))
+    (put (s .writers) o (without (holders s write o) r))
+    (s .request)
+
+-- r's run ends: it is idle, unmarked, holds nothing and waits for nothing
+unfoldable pub endRun : State → ℕ → State
+endRun s r =
+    withLocks s (without (s .active) r) (without (s .unlocked) r)
+    (mapped (λ v. without v r) mostObjects (s .readers))
+    (mapped (λ v. without v r) mostObjects (s .writers))
+    (put (s .request) r 0)

@@ -1,0 +1,97 @@
+-- Well-formed states: refusal 8 of document 01, one definition for each of its clauses, in its order.
+-- Assumes nothing.
+use Prim.Native.Nat.{ℕ, _^_}
+use mathlib.Core.Bool.{Bool, not, _&&_, _||_}
+use lib.Dec.{eqb, ltb}
+use Rattle.basics.specs.Choice.{between}
+use Rattle.basics.specs.Loops.{every}
+use Rattle.ranks.specs.Ranks.{limit, subset, disjoint, atMostOne}
+use Rattle.state.specs.declared.State.{State}
+use Rattle.state.specs.State.{mostObjects, mostProcessors, read, write, isObject, processorOf, declared, declaredAny, mayLock}
+use Rattle.state.specs.State.{holders, holdersAny, holdsAlready, isActive, hasUnlocked, isWaiting, requestedMode, requestedObject}
+
+-- "A table has 1 to 64 jobs, 1 to 8 processors and 1 to 128 objects."
+abbrev pub countsWithin : ℕ → ℕ → ℕ → Bool
+countsWithin p j o = between 1 mostProcessors p && between 1 limit j && between 1 mostObjects o
+
+-- "counts .. within limits"
+abbrev pub countsFit : State → Bool
+countsFit s = countsWithin (s .processors) (s .jobs) (s .objects)
+
+-- the processor of rank r is one of the table's
+abbrev pub processorFits : State → ℕ → Bool
+processorFits s r = ltb (processorOf s r) (s .processors)
+
+-- "processors .. within limits"
+unfoldable pub processorsFit : State → Bool
+processorsFit s = every (s .jobs) (processorFits s)
+
+-- nothing is declared for an object that the table does not have
+abbrev pub declarationFits : State → ℕ → Bool
+declarationFits s o = isObject s o || eqb (declaredAny s o) 0
+
+-- "declarations within limits"
+unfoldable pub declarationsFit : State → Bool
+declarationsFit s = every mostObjects (declarationFits s)
+
+-- the set has no rank above the job count
+abbrev pub ofJobs : State → ℕ → Bool
+ofJobs s set = ltb set (2 ^ s .jobs)
+
+abbrev pub declaredOfJobs : State → ℕ → Bool
+declaredOfJobs s o = ofJobs s (declaredAny s o)
+
+-- "ranks above the job count idle, with nothing declared"
+unfoldable pub aboveIdle : State → Bool
+aboveIdle s = ofJobs s (s .active) && every mostObjects (declaredOfJobs s)
+
+-- the holders of object o are active
+abbrev pub heldByActive : State → ℕ → Bool
+heldByActive s o = subset (holdersAny s o) (s .active)
+
+-- the holders of object o have the right to their locks
+abbrev pub heldByRight : State → ℕ → Bool
+heldByRight s o = subset (holders s read o) (declared s read o) && subset (holders s write o) (declared s write o)
+
+-- "locks only of active jobs with that right"
+unfoldable pub locksFit : State → Bool
+locksFit s = every mostObjects (heldByActive s) && every mostObjects (heldByRight s)
+
+abbrev pub lockedOnce : State → ℕ → Bool
+lockedOnce s o = disjoint (holders s read o) (holders s write o)
+
+-- "at most one lock per job and object"
+unfoldable pub oneLockEach : State → Bool
+oneLockEach s = every mostObjects (lockedOnce s)
+
+-- of object o's readers and writers: there is at most one writer, and no reader where there is one
+abbrev pub alone : ℕ → ℕ → Bool
+alone readers writers = atMostOne writers && (eqb writers 0 || eqb readers 0)
+
+abbrev pub writtenAlone : State → ℕ → Bool
+writtenAlone s o = alone (holders s read o) (holders s write o)
+
+-- "a write lock shares its object with no other"
+unfoldable pub writersAlone : State → Bool
+writersAlone s = every mostObjects (writtenAlone s)
+
+-- r is active, has not unlocked, and may be waiting for the lock on o in mode m: it is declared, and 17 would not refuse it
+abbrev pub mayAwait : State → ℕ → ℕ → ℕ → Bool
+mayAwait s m r o =
+    between read write m && isObject s o && isActive s r && not (hasUnlocked s r) && mayLock s m r o && not (holdsAlready s m r o)
+
+abbrev pub waitFits : State → ℕ → Bool
+waitFits s r = not (isWaiting s r) || mayAwait s (requestedMode s r) r (requestedObject s r)
+
+-- "a waiting job is active, hasn't unlocked, and asks for a declared lock that 17 wouldn't refuse"
+unfoldable pub waitsFit : State → Bool
+waitsFit s = every limit (waitFits s)
+
+-- "an idle job carries no mark of unlocking"
+unfoldable pub marksFit : State → Bool
+marksFit s = subset (s .unlocked) (s .active)
+
+-- 8: "the state handed in isn't well formed"
+unfoldable pub wellFormed : State → Bool
+wellFormed s =
+    countsFit s && processorsFit s && declarationsFit s && aboveIdle s && locksFit s && oneLockEach s && writersAlone s && waitsFit s && marksFit s
