@@ -1,0 +1,2 @@
+-- The bytes of a state's table, and what the table writer answers and leaves in the lent buffer.
+pub mod Writing
