@@ -1,3 +1,4 @@
 -- The state: what it says and how it changes, which states are well formed, and what a well-formed state says of each job and object.
 pub mod State
 pub mod WellFormed
+pub mod Clauses

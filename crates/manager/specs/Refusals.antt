@@ -1,0 +1,52 @@
+-- The refusals 8 to 19 of events and questions (01, "Refusals by who can cause them"): "Order: 8, then as numbered."
+-- Assumes nothing.
+use Prim.Native.Nat.{ℕ, _-_}
+use mathlib.Core.Bool.{Bool, not, _&&_}
+use lib.Dec.{eqb, ltb}
+use Rattle.basics.specs.Choice.{if_then_else_, _if_else_, between}
+use Rattle.state.specs.declared.State.{State}
+use Rattle.state.specs.State.{isRank, isObject, mayLock, holdsAny, holdsAlready, isActive, hasUnlocked, isWaiting}
+use Rattle.state.specs.WellFormed.{wellFormed}
+
+-- kinds 2 read-lock and 3 write-lock ask for a lock
+abbrev pub isRequest : ℕ → Bool
+isRequest k = between 2 3 k
+
+-- kind 2 asks in mode 1, kind 3 in mode 2
+abbrev pub modeOf : ℕ → ℕ
+modeOf k = k - 1
+
+-- "11 object out of range, or not 0 for kinds 1, 5, 6"
+abbrev pub objectAllowed : State → ℕ → ℕ → Bool
+objectAllowed s k o = if between 2 4 k then isObject s o else eqb o 0
+
+-- the number of the refusal of kind k, rank r, object o in a well-formed state, 0 if it is accepted
+unfoldable pub eventRefusal : State → ℕ → ℕ → ℕ → ℕ
+eventRefusal s k r o =
+    9 if not (between 1 6 k) else
+    10 if not (isRank s r) else
+    11 if not (objectAllowed s k o) else
+    12 if eqb k 1 && isActive s r else
+    13 if not (eqb k 1) && not (isActive s r) else
+    14 if between 2 5 k && isWaiting s r else
+    15 if isRequest k && hasUnlocked s r else
+    16 if isRequest k && not (mayLock s (modeOf k) r o) else
+    17 if isRequest k && holdsAlready s (modeOf k) r o else
+    18 if eqb k 4 && not (holdsAny s r o) else
+    0
+
+-- the number of an event's refusal, 0 if it is accepted
+unfoldable pub refusal : State → ℕ → ℕ → ℕ → ℕ
+refusal s k r o = 8 if not (wellFormed s) else eventRefusal s k r o
+
+-- "The questions for a job's inherited rank and for its named lock .. use 8, 10, 13"
+unfoldable pub jobRefusal : State → ℕ → ℕ
+jobRefusal s r = 8 if not (wellFormed s) else 10 if not (isRank s r) else 13 if not (isActive s r) else 0
+
+-- "for an object's two ceilings 8, 11"
+unfoldable pub objectRefusal : State → ℕ → ℕ
+objectRefusal s o = 8 if not (wellFormed s) else 11 if not (isObject s o) else 0
+
+-- "for the rank a processor runs (0 if idle) 8, 19": "processor number not in the table"
+unfoldable pub processorRefusal : State → ℕ → ℕ
+processorRefusal s p = 8 if not (wellFormed s) else 19 if not (ltb p (s .processors)) else 0

@@ -1,0 +1,48 @@
+-- Who is granted a lock, whom a waiting job names and why, who is woken (01, "Granting, naming, waking").
+-- Assumes nothing.
+use Prim.Native.Nat.{ℕ}
+use mathlib.Core.Bool.{Bool, not, _&&_, _||_}
+use lib.Dec.{eqb, ltb}
+use Rattle.basics.specs.Choice.{if_then_else_, _if_else_}
+use Rattle.basics.specs.Loops.{firstNonzero}
+use Rattle.state.specs.declared.State.{State}
+use Rattle.state.specs.State.{write, holds, isWaiting}
+use Rattle.rule.specs.Weights.{writeCeiling}
+use Rattle.rule.specs.Keys.{noKey, keyWeight, keyHolder, keyObject, lowestKey, oldLowestKey}
+
+-- "A request is granted if the requester's rank is more urgent than the weight of every lock held by others."
+abbrev pub passesBelow : ℕ → ℕ → Bool
+passesBelow j key = ltb j (keyWeight key)
+
+abbrev pub passes : State → ℕ → Bool
+passes s j = passesBelow j (lowestKey s j)
+
+abbrev pub oldPasses : State → ℕ → Bool
+oldPasses s j = passesBelow j (oldLowestKey s j)
+
+-- "It names the lock of another job with the most urgent weight"; "a waiting job whose request would pass names nobody"
+unfoldable pub namedKey : State → ℕ → ℕ
+namedKey s j = if isWaiting s j && not (passes s j) then lowestKey s j else noKey
+
+-- the named rank and object, 0 and 0 if j names nobody
+abbrev pub namedHolder : State → ℕ → ℕ
+namedHolder s j = keyHolder (namedKey s j)
+
+abbrev pub namedObject : State → ℕ → ℕ
+namedObject s j = keyObject (namedKey s j)
+
+-- why a request for o in mode m waits for the lock that h holds on p: "1 conflict, if the named lock is on the requested object and either
+-- is a write; else 3 cap, if it is a read lock whose holder is more urgent than the write ceiling; else 2 ceiling"
+unfoldable pub reason : State → ℕ → ℕ → ℕ → ℕ → ℕ
+reason s m o h p =
+    1 if eqb p o && (eqb m write || holds s write h p) else
+    3 if not (holds s write h p) && ltb h (writeCeiling s p) else
+    2
+
+-- j, if it waits and its request passes; else 0
+abbrev pub wakes : State → ℕ → ℕ
+wakes s j = if isWaiting s j && passes s j then j else 0
+
+-- "the waiting jobs are searched from the most urgent on, and the search stops with the first whose request passes": that rank, or 0
+unfoldable pub wakeable : State → ℕ
+wakeable s = firstNonzero (s .jobs) (wakes s)

@@ -1,0 +1,72 @@
+-- The nine clauses of a well-formed state, taken apart and put together.
+-- Assumes nothing.
+use mathlib.Core.Path.{_≡_}
+use mathlib.Core.Bool.{Bool, true, _&&_}
+use Prim.Native.Nat.{ℕ, _≤_}
+use Rattle.basics.specs.Choice.{between, and-true, and-left, and-right, between-true}
+use Rattle.ranks.specs.Ranks.{limit}
+use Rattle.state.specs.declared.State.{State}
+use Rattle.state.specs.State.{mostObjects, mostProcessors}
+use Rattle.state.specs.WellFormed.{countsWithin, countsFit, processorsFit, declarationsFit, aboveIdle, locksFit, oneLockEach, writersAlone, waitsFit, marksFit, wellFormed}
+
+pub record Clauses (s : State) : Type 0 where
+  pub counts : countsFit s ≡ true
+  pub processors : processorsFit s ≡ true
+  pub declarations : declarationsFit s ≡ true
+  pub above : aboveIdle s ≡ true
+  pub locks : locksFit s ≡ true
+  pub once : oneLockEach s ≡ true
+  pub alone : writersAlone s ≡ true
+  pub waits : waitsFit s ≡ true
+  pub marks : marksFit s ≡ true
+
+pub clauses : (s : State) → wellFormed s ≡ true → Clauses s
+unfolding wellFormed
+clauses s w =
+    let c1 = countsFit s in
+    let c2 = c1 && processorsFit s in
+    let c3 = c2 && declarationsFit s in
+    let c4 = c3 && aboveIdle s in
+    let c5 = c4 && locksFit s in
+    let c6 = c5 && oneLockEach s in
+    let c7 = c6 && writersAlone s in
+    let c8 = c7 && waitsFit s in
+    let w8 = and-left c8 (marksFit s) w in
+    let w7 = and-left c7 (waitsFit s) w8 in
+    let w6 = and-left c6 (writersAlone s) w7 in
+    let w5 = and-left c5 (oneLockEach s) w6 in
+    let w4 = and-left c4 (locksFit s) w5 in
+    let w3 = and-left c3 (aboveIdle s) w4 in
+    let w2 = and-left c2 (declarationsFit s) w3 in
+    record {
+      counts = and-left c1 (processorsFit s) w2;
+      processors = and-right c1 (processorsFit s) w2;
+      declarations = and-right c2 (declarationsFit s) w3;
+      above = and-right c3 (aboveIdle s) w4;
+      locks = and-right c4 (locksFit s) w5;
+      once = and-right c5 (oneLockEach s) w6;
+      alone = and-right c6 (writersAlone s) w7;
+      waits = and-right c7 (waitsFit s) w8;
+      marks = and-right c8 (marksFit s) w;
+    }
+
+pub well-formed : (s : State) → Clauses s → wellFormed s ≡ true
+unfolding wellFormed
+well-formed s c = simp (c .counts, c .processors, c .declarations, c .above, c .locks, c .once, c .alone, c .waits, c .marks)
+
+-- ---- counts within their limits
+
+pub record Within (p j o : ℕ) : Type 0 where
+  pub processors : (1 ≤ p) × (p ≤ mostProcessors)
+  pub jobs : (1 ≤ j) × (j ≤ limit)
+  pub objects : (1 ≤ o) × (o ≤ mostObjects)
+
+pub counts-within : (p j o : ℕ) → countsWithin p j o ≡ true → Within p j o
+counts-within p j o e =
+    let pj = between 1 mostProcessors p && between 1 limit j in
+    let first-two = and-left pj (between 1 mostObjects o) e in
+    record {
+      processors = between-true 1 mostProcessors p (and-left (between 1 mostProcessors p) (between 1 limit j) first-two);
+      jobs = between-true 1 limit j (and-right (between 1 mostProcessors p) (between 1 limit j) first-two);
+      objects = between-true 1 mostObjects o (and-right pj (between 1 mostObjects o) e);
+    }
