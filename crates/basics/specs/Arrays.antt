@@ -1,9 +1,9 @@
 -- Arrays whose elements count from 1: element 0, and an element past the last, is 0, and a store there changes nothing.
 -- Assumes nothing.
-use mathlib.Core.Path.{_≡_, refl, sym, ap, _∙_}
+use mathlib.Core.Path.{_≡_, refl, sym, ap}
 use mathlib.Core.Logic.{_≢_}
 use mathlib.Core.List.{List, [], _∷_}
-use Prim.Native.Nat.{ℕ, zero, suc, _+_, _≤_, _<_}
+use Prim.Native.Nat.{ℕ, zero, suc, _+_, _-_, _≤_}
 use native.Mathlib.Numerals.{add-one}
 use native.Mathlib.Omega.{arith}
 use native.Mathlib.Decide.{decLe}
@@ -77,3 +77,8 @@ at-mapped f zero (x ∷ xs) (suc i) z e = absurd (omega arith)
 at-mapped f (suc n) [] (suc i) z e = sym z
 at-mapped f (suc n) (x ∷ xs) (suc zero) z e = refl
 at-mapped f (suc n) (x ∷ xs) (suc (suc i)) z e = at-mapped f n xs (suc i) z (omega arith)
+
+-- an element by its index, which counts from 0
+pub at-index : (xs : List ℕ) (k : ℕ) → 1 ≤ k → at xs k ≡ getD xs (k - 1) 0
+at-index xs zero h = absurd (omega arith)
+at-index xs (suc i) h = let back : i ≡ suc i - 1 = omega arith in ap (λ (j : ℕ). getD xs j 0) back

@@ -10,7 +10,6 @@ use borrow.Author.Tests.{leb-true, leb-false, le-leb}
 infixr 5 if_then_else_
 infixr 5 _if_else_
 infixr 5 _orElse_
-
 abbrev pub if_then_else_ {ℓ} : {A : Type ℓ} → Bool → A → A → A
 if_then_else_ true a b = a
 if_then_else_ false a b = b
@@ -79,3 +78,7 @@ above-between low high n p e = go (leb n high) refl
     go : (b : Bool) → leb n high ≡ b → high < n
     go true l = absurd (clash (inside-between low high n p (leb-true n high l)) e)
     go false l = leb-false n high l
+
+pub and-assoc : (p q r : Bool) → p && q && r ≡ p && (q && r)
+and-assoc true q r = refl
+and-assoc false q r = refl

@@ -11,7 +11,7 @@ use native.Mathlib.Numerals.{add-one}
 use native.Mathlib.Omega.{arith}
 use lib.Dec.{leb}
 use borrow.Author.Tests.{leb-true, leb-false}
-use Rattle.basics.specs.Choice.{_orElse_, and-true, and-left, and-right, same-test}
+use Rattle.basics.specs.Choice.{_orElse_, clash, and-true, and-left, and-right, same-test}
 
 -- p holds at each of 1, .., n
 unfoldable pub every : ℕ → (ℕ → Bool) → Bool
@@ -51,6 +51,14 @@ unfolding every
 every-true zero p f = refl
 every-true (suc n) p f =
     and-true (every n p) (p (suc n)) (every-true n p (λ i a b. f i a (omega arith))) (f (suc n) (omega arith) (omega arith))
+
+-- one that fails is enough
+pub every-false : (n : ℕ) (p : ℕ → Bool) (i : ℕ) → p i ≡ false → 1 ≤ i → i ≤ n → every n p ≡ false
+every-false n p i f l h = go (every n p) refl
+  where
+    go : (b : Bool) → every n p ≡ b → b ≡ false
+    go true e = absurd (clash (every-at n p i e l h) f)
+    go false e = refl
 
 pub every-same : (n : ℕ) (p q : ℕ → Bool) → ((i : ℕ) → 1 ≤ i → i ≤ n → p i ≡ q i) → every n p ≡ every n q
 unfolding every

@@ -7,7 +7,6 @@ use Rattle.manager.specs.declared.Answer.{Answer}
 use Rattle.manager.specs.declared.Answer.the-variants.{Granted, Waits, Done, Refused}
 use Rattle.manager.specs.declared.RankAnswer.{RankAnswer}
 use Rattle.manager.specs.declared.NamedAnswer.{NamedAnswer}
-use Rattle.manager.specs.declared.CeilingsAnswer.{CeilingsAnswer}
 
 -- 1 granted, 2 waits, 3 done, 4 refused: its place among the four; and its values
 pub record Paper : Type 0 where

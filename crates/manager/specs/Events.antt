@@ -1,7 +1,6 @@
 -- What an event does (01, "Jobs, objects, events": "Each kind has its own rule"): its answer and the next state.
 -- Assumes nothing.
 use Prim.Native.Nat.{ℕ}
-use mathlib.Core.Bool.{Bool}
 use lib.Dec.{eqb}
 use Rattle.basics.specs.Choice.{if_then_else_}
 use Rattle.state.specs.declared.State.{State}

@@ -1,6 +1,5 @@
 // The lock manager: events and questions on a state.
 ghost use mathlib.Core.Path.{_≡_};
-
 use state::State;
 
 // An event's answer: granted; waits for the lock of a holder on an object, with the reason; done, with the woken rank or 0; refused, with its number.

@@ -1,6 +1,6 @@
 -- What several sets together say of each of them; which sets have ranks up to k only; when a set has no two members.
 -- Assumes nothing.
-use mathlib.Core.Path.{_≡_, refl, sym, ap, ap₂, _∙_}
+use mathlib.Core.Path.{_≡_, refl, ap, ap₂, _∙_}
 use mathlib.Core.Logic.{_⊎_, inl, inr, ⊎-elim}
 use mathlib.Core.Bool.{Bool, true, false, _&&_}
 use Prim.Native.Nat.{ℕ, zero, suc, _+_, _-_, _*_, _/_, _%_, _^_, _≤_, _<_, min}
@@ -8,16 +8,15 @@ use native.Mathlib.Nat.{eq-zero-or-pos, pow-suc, le-antisymm, mod-eq-of-lt}
 use native.Mathlib.Numerals.{add-one}
 use native.Mathlib.Omega.{arith}
 use native.Mathlib.Decide.{decLe}
-use lib.Dec.{eqb, leb, ltb}
-use lib.Pow.{pow-pos, pow-lt}
-use lib.Bits.{bitAnd, bitOr, bitXor, and-step, and-self, and-mask, mask-lt, and-le-l, and-le-r, or-add-and, xor-add-and, xor-self, or-lt}
-use lib.Count.{ones, ones-step, ones-le, trailingZeros}
+use lib.Dec.{eqb, ltb}
+use lib.Bits.{bitAnd, bitXor, and-step, and-self, and-mask, mask-lt, and-le-l, and-le-r, or-add-and, xor-add-and, xor-self, or-lt}
+use lib.Count.{ones-step, ones-le, trailingZeros}
 use borrow.Author.Tests.{eqb-true, eq-eqb, leb-true, le-leb, ltb-true, lt-ltb}
 use Rattle.basics.specs.Choice.{clash, same-test, and-true, and-left, and-right}
 use Rattle.basics.specs.Loops.{every}
 use Rattle.ranks.specs.Ranks.{bit, member, first, union, minus, butFirst, subset, size, atMostOne, upTo, unions}
 use Rattle.ranks.specs.Bits.{bit-lt, or-bit, trailing-set, trailing-lt, ones-pos}
-use Rattle.ranks.specs.RankLaws.{member-bit, bit-member, member-zero, member-le, subset-member, member-subset, first-least, first-member, first-le, first-pos}
+use Rattle.ranks.specs.RankLaws.{member-bit, bit-member, member-zero, subset-member, member-subset, first-least, first-member, first-le}
 
 -- ---- the members of two sets together
 
@@ -74,8 +73,16 @@ empty-union a b =
     (eq-eqb a 0 (omega (arith, or-add-and a b, and-le-l a b, and-le-r a b))) (eq-eqb b 0 (omega (arith, or-add-and a b, and-le-l a b, and-le-r a b))))
     (λ t. eq-eqb (union a b) 0 (omega (arith, or-add-and a b, eqb-true a 0 (and-left (eqb a 0) (eqb b 0) t), eqb-true b 0 (and-right (eqb a 0) (eqb b 0) t))))
 
-pub subset-union : (k a b c : ℕ) → a < 2 ^ k → b < 2 ^ k → subset (union a b) c ≡ subset a c && subset b c
-subset-union k a b c ha hb =
+-- any number is below a power of two
+pub below-power : (n : ℕ) → n < 2 ^ n
+below-power zero = omega arith
+below-power (suc n) = omega (arith, pow-suc 2 n, below-power n)
+
+pub subset-union : (a b c : ℕ) → subset (union a b) c ≡ subset a c && subset b c
+subset-union a b c =
+    let k = a + b in
+    let ha : a < 2 ^ k = omega (arith, below-power k) in
+    let hb : b < 2 ^ k = omega (arith, below-power k) in
     same-test (subset (union a b) c) (subset a c && subset b c)
     (λ t. and-true (subset a c) (subset b c)
     (member-subset k a c ha (λ r l m. subset-member (union a b) c r t (union-left a b r m)))
@@ -90,26 +97,21 @@ empty-minus a b =
     (λ t. let e = eqb-true (minus a b) 0 t in eq-eqb both a (omega (arith, xor-add-and a both, and-le-l a both, and-le-r a both)))
     (λ t. eq-eqb (minus a b) 0 (ap (bitXor a) (eqb-true both a t) ∙ xor-self a))
 
-pub unions-more : (n : ℕ) (f : ℕ → ℕ) → unions (n + 1) f ≡ union (unions n f) (f (n + 1))
+-- one set more is joined
+pub unions-next : (n : ℕ) (f : ℕ → ℕ) → unions (n + 1) f ≡ union (unions n f) (f (suc n))
 unfolding unions
-unions-more n f = rw add-one
+unions-next n f = rw add-one
 
 pub unions-empty : (n : ℕ) (f : ℕ → ℕ) → eqb (unions n f) 0 ≡ every n (λ i. eqb (f i) 0)
 unfolding unions every
 unions-empty zero f = refl
 unions-empty (suc n) f = empty-union (unions n f) (f (suc n)) ∙ ap (λ (t : Bool). t && eqb (f (suc n)) 0) (unions-empty n f)
 
-unions-lt : (k n : ℕ) (f : ℕ → ℕ) → ((i : ℕ) → f i < 2 ^ k) → unions n f < 2 ^ k
-unfolding unions
-unions-lt k zero f h = pow-pos k
-unions-lt k (suc n) f h = or-lt k (unions n f) (f (suc n)) (unions-lt k n f h) (h (suc n))
-
-pub unions-subset : (k n c : ℕ) (f : ℕ → ℕ) → ((i : ℕ) → f i < 2 ^ k) → subset (unions n f) c ≡ every n (λ i. subset (f i) c)
+pub unions-subset : (n c : ℕ) (f : ℕ → ℕ) → subset (unions n f) c ≡ every n (λ i. subset (f i) c)
 unfolding unions every
-unions-subset k zero c f h = refl
-unions-subset k (suc n) c f h =
-    subset-union k (unions n f) (f (suc n)) c (unions-lt k n f h) (h (suc n))
-    ∙ ap (λ (t : Bool). t && subset (f (suc n)) c) (unions-subset k n c f h)
+unions-subset zero c f = refl
+unions-subset (suc n) c f =
+    subset-union (unions n f) (f (suc n)) c ∙ ap (λ (t : Bool). t && subset (f (suc n)) c) (unions-subset n c f)
 
 -- ---- ranks up to k only
 
@@ -147,9 +149,10 @@ module _ (k n : ℕ) (half : n / 2 < 2 ^ k) (rest : OneLeft (n / 2)) where
   one-left-step : (d : ℕ) → n % 2 ≡ d → (n / 2 ≡ 0) ⊎ (0 < n / 2) → OneLeft n
   one-left-step zero e (inl z) =
       (λ q. omega (arith, ones-step n, ones-le 0 (n / 2) (omega arith)), λ q. omega (arith, and-le-l n (n - 1)))
-  one-left-step zero e (inr p) =
-      (λ q. omega (arith, ones-step n, rest .0 (omega (arith, but-first-even e p))),
-      λ q. omega (arith, but-first-even e p, rest .1 (omega (arith, ones-step n))))
+  one-left-step zero e (inr p) = (
+    λ q. omega (arith, ones-step n, rest .0 (omega (arith, but-first-even e p))),
+    λ q. omega (arith, but-first-even e p, rest .1 (omega (arith, ones-step n))),
+  )
   one-left-step (suc d) e (inl z) =
       (λ q. omega (arith, ones-step n, ones-le 0 (n / 2) (omega arith)), λ q. omega (arith, but-first-odd (omega arith)))
   one-left-step (suc d) e (inr p) =
@@ -161,9 +164,9 @@ one-left (suc k) n h =
     let half : n / 2 < 2 ^ k = omega (arith, pow-suc 2 k) in
     one-left-step k n half (one-left k (n / 2) half) (n % 2) refl (eq-zero-or-pos (n / 2))
 
-pub but-first-at-most-one : (k n : ℕ) → n < 2 ^ k → eqb (butFirst n) 0 ≡ atMostOne n
-but-first-at-most-one k n h =
-    let both = one-left k n h in
+pub but-first-at-most-one : (n : ℕ) → eqb (butFirst n) 0 ≡ atMostOne n
+but-first-at-most-one n =
+    let both = one-left n n (below-power n) in
     same-test (eqb (butFirst n) 0) (atMostOne n)
     (λ t. le-leb (size n) 1 (both .0 (eqb-true (butFirst n) 0 t)))
     (λ t. eq-eqb (butFirst n) 0 (both .1 (leb-true (size n) 1 t)))

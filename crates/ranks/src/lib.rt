@@ -84,7 +84,11 @@ pub fn up_to(count: u8) -> RankSet
     requires { ⌜ count ≤ R.limit ⌝ }
     ensures { λ r. ⌜ r ≡ R.upTo count ⌝ }
 {
-    if count == 0 { 0 } else { 0xffff_ffff_ffff_ffff >> (64 - count) }
+    if count == 0 {
+        0
+    } else {
+        0xffff_ffff_ffff_ffff >> (64 - count)
+    }
 }
 
 // How many ranks the set has.

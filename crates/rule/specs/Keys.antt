@@ -2,7 +2,7 @@
 -- "ties going to the lowest rank number and then the lowest object number", is the one with the lowest key.
 -- Assumes nothing.
 use Prim.Native.Nat.{ℕ, _+_, _*_, _/_, _%_, min}
-use mathlib.Core.Bool.{Bool, not, _&&_}
+use mathlib.Core.Bool.{not, _&&_}
 use lib.Dec.{eqb}
 use Rattle.basics.specs.Choice.{if_then_else_}
 use Rattle.basics.specs.Loops.{least}

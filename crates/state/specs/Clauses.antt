@@ -1,9 +1,9 @@
 -- The nine clauses of a well-formed state, taken apart and put together.
 -- Assumes nothing.
 use mathlib.Core.Path.{_≡_}
-use mathlib.Core.Bool.{Bool, true, _&&_}
+use mathlib.Core.Bool.{true, _&&_}
 use Prim.Native.Nat.{ℕ, _≤_}
-use Rattle.basics.specs.Choice.{between, and-true, and-left, and-right, between-true}
+use Rattle.basics.specs.Choice.{between, and-left, and-right, between-true}
 use Rattle.ranks.specs.Ranks.{limit}
 use Rattle.state.specs.declared.State.{State}
 use Rattle.state.specs.State.{mostObjects, mostProcessors}

@@ -2,3 +2,4 @@
 pub mod State
 pub mod WellFormed
 pub mod Clauses
+pub mod Survey

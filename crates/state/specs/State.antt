@@ -9,7 +9,6 @@ use Rattle.basics.specs.Choice.{if_then_else_, between}
 use Rattle.basics.specs.Arrays.{at, put, mapped}
 use Rattle.ranks.specs.Ranks.{member, with, without, union}
 use Rattle.state.specs.declared.State.{State}
-
 -- how many ranks, objects and processors there can be
 use Rattle.ranks.specs.Ranks.{limit}
 

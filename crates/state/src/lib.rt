@@ -1,7 +1,15 @@
 // The lock manager's state, and the test whether a state is well formed. Ranks and objects count from 1; rank 1 is the most urgent.
 ghost use mathlib.Core.Path.{_≡_};
+ghost use Rattle.state.specs.State.{stateOf};
 ghost use Rattle.state.specs.WellFormed.{wellFormed};
 
+mod jobs;
+mod locks;
+
+use jobs::processors_fit;
+use jobs::waits_fit;
+use jobs::within;
+use locks::survey_objects;
 use ranks::RankSet;
 
 // The table and the locks. A rank's element stands at rank - 1, an object's at object - 1.
@@ -17,4 +25,69 @@ pub struct State {
     pub readers: [RankSet; 128],
     pub writers: [RankSet; 128],
     pub request: [u16; 64],
+}
+
+// Whether the state with these parts is well formed.
+pub fn fits<'a>(
+    processors: u8,
+    jobs: u8,
+    objects: u8,
+    processor_of: &'a [u8; 64],
+    may_read: &'a [RankSet; 128],
+    may_write: &'a [RankSet; 128],
+    active: RankSet,
+    unlocked: RankSet,
+    readers: &'a [RankSet; 128],
+    writers: &'a [RankSet; 128],
+    request: &'a [u16; 64],
+) -> bool
+    ensures { λ r. ⌜ r ≡ wellFormed (stateOf processors jobs objects (now («processor_of» .entry)) (now («may_read» .entry)) (now («may_write» .entry))
+        active unlocked (now (readers .entry)) (now (writers .entry)) (now (request .entry))) ⌝ }
+{
+    if !(within(1, 8, processors) & within(1, 64, jobs) & within(1, 128, objects)) {
+        return false;
+    }
+    let all = ranks::up_to(jobs);
+    let seen = survey_objects(may_read, may_write, readers, writers, objects);
+    (seen.wrong == 0)
+        & ranks::is_subset(seen.declared, all)
+        & ranks::is_subset(seen.held, active)
+        & ranks::is_subset(active, all)
+        & ranks::is_subset(unlocked, active)
+        & processors_fit(processors, jobs, processor_of)
+        & waits_fit(
+            objects,
+            may_read,
+            may_write,
+            active,
+            unlocked,
+            readers,
+            writers,
+            request,
+        )
+}
+
+// Whether a state is well formed: what refusal 8 tests.
+pub fn is_well_formed(state: State) -> bool
+    ensures { λ r. ⌜ r ≡ wellFormed state ⌝ }
+{
+    let processor_of = state.processor_of;
+    let may_read = state.may_read;
+    let may_write = state.may_write;
+    let readers = state.readers;
+    let writers = state.writers;
+    let request = state.request;
+    fits(
+        state.processors,
+        state.jobs,
+        state.objects,
+        &processor_of,
+        &may_read,
+        &may_write,
+        state.active,
+        state.unlocked,
+        &readers,
+        &writers,
+        &request,
+    )
 }

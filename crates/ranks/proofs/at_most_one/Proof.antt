@@ -1,8 +1,7 @@
 -- `ranks::at_most_one` meets its contract, by `but-first-at-most-one`.
 -- Assumes nothing.
 use borrow.Author.Needs.{needs}
-use mathlib.Core.Path.{_≡_, ap, _∙_}
-use native.Mathlib.Omega.{arith}
+use mathlib.Core.Path.{ap, _∙_}
 use Prim.Native.Nat.{ℕ}
 use lib.Dec.{eqb}
 use Rattle.ranks.specs.UnionLaws.{but-first-at-most-one}
@@ -14,7 +13,7 @@ but-first-requires c κs = search needs
 
 returns : tie.Need-returns
 returns c =
-    ap (λ (n : ℕ). eqb n 0) (c .but-first .ensures) ∙ but-first-at-most-one 64 (c .before .args .set) (omega arith)
+    ap (λ (n : ℕ). eqb n 0) (c .but-first .ensures) ∙ but-first-at-most-one (c .before .args .set)
 
 pub at-most-one-spec : {M : Type 1} → statement M
 at-most-one-spec = tie.close (tie.spec but-first-requires returns)

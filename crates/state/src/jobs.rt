@@ -1,0 +1,127 @@
+// What refusal 8 asks of the jobs: their processors, and what they wait for.
+ghost use mathlib.Core.Path.{_≡_};
+ghost use mathlib.Core.List.{[]};
+ghost use Prim.Native.Nat.{_≤_};
+ghost use lib.Dec.{eqb};
+ghost use Rattle.basics.specs.Choice.{between};
+ghost use Rattle.state.specs.State.{ofMode, stateOf};
+ghost use Rattle.state.specs.WellFormed.{processorsFit, mayAwait, waitsFit};
+ghost use Rattle.state.specs.State.{modeIn, objectIn};
+ghost use Rattle.state.specs.Survey.{mayAsk};
+use ranks::RankSet;
+
+// Whether the number is one of low to high.
+pub fn within(low: u8, high: u8, n: u8) -> bool
+    ensures { λ r. ⌜ r ≡ between low high n ⌝ }
+{
+    (low <= n) & (n <= high)
+}
+
+// Whether each job's processor is one of the table's.
+pub fn processors_fit(processors: u8, jobs: u8, processor_of: &[u8; 64]) -> bool
+    requires { ⌜ jobs ≤ 64 ⌝ }
+    ensures { λ r. ⌜ r ≡ processorsFit (stateOf processors jobs 0 (now («processor_of» .entry)) [] [] 0 0 [] [] []) ⌝ }
+{
+    let count = jobs as usize;
+    let mut fit = true;
+    let mut i: usize = 0;
+    while i < count {
+        fit = fit & (processor_of[i] < processors);
+        i += 1;
+    }
+    fit
+}
+
+// Of two sets, that of the mode: 1 read, 2 write.
+pub fn of_mode(mode: u8, reading: RankSet, writing: RankSet) -> RankSet
+    ensures { λ r. ⌜ r ≡ ofMode mode reading writing ⌝ }
+{
+    if mode == 1 { reading } else { writing }
+}
+
+// Whether a rank may ask for an object with these sets in a mode: it has the right, and neither that lock nor the write lock.
+fn may_ask(
+    mode: u8,
+    rank: u8,
+    may_read: RankSet,
+    may_write: RankSet,
+    readers: RankSet,
+    writers: RankSet,
+) -> bool
+    requires { ⌜ (1 ≤ rank) × (rank ≤ 64) ⌝ }
+    ensures { λ r. ⌜ r ≡ mayAsk mode rank «may_read» «may_write» readers writers ⌝ }
+{
+    ranks::contains(of_mode(mode, may_read, may_write), rank)
+        & !(ranks::contains(of_mode(mode, readers, writers), rank) | ranks::contains(writers, rank))
+}
+
+// Whether a rank may be waiting for the request: a lock of a mode on an object of the table that it may ask for, in a run without an unlock.
+fn may_await<'a>(
+    objects: u8,
+    may_read: &'a [RankSet; 128],
+    may_write: &'a [RankSet; 128],
+    active: RankSet,
+    unlocked: RankSet,
+    readers: &'a [RankSet; 128],
+    writers: &'a [RankSet; 128],
+    request: u16,
+    rank: u8,
+) -> bool
+    requires { ⌜ (objects ≤ 128) × (1 ≤ rank) × (rank ≤ 64) ⌝ }
+    ensures { λ r. ⌜ r ≡ mayAwait (stateOf 0 0 objects [] (now («may_read» .entry)) (now («may_write» .entry)) active unlocked (now (readers .entry)) (now (writers .entry)) [])
+        (modeIn request) rank (objectIn request) ⌝ }
+{
+    let mode = (request / 256) as u8;
+    let object = (request % 256) as u8;
+    if !(within(1, 2, mode) & within(1, objects, object)) {
+        return false;
+    }
+    let i = (object - 1) as usize;
+    ranks::contains(active, rank)
+        & !ranks::contains(unlocked, rank)
+        & may_ask(
+            mode,
+            rank,
+            may_read[i],
+            may_write[i],
+            readers[i],
+            writers[i],
+        )
+}
+
+// Whether each waiting job may be waiting for its request.
+pub fn waits_fit<'a>(
+    objects: u8,
+    may_read: &'a [RankSet; 128],
+    may_write: &'a [RankSet; 128],
+    active: RankSet,
+    unlocked: RankSet,
+    readers: &'a [RankSet; 128],
+    writers: &'a [RankSet; 128],
+    request: &'a [u16; 64],
+) -> bool
+    requires { ⌜ objects ≤ 128 ⌝ }
+    ensures { λ r. ⌜ r ≡ waitsFit (stateOf 0 0 objects [] (now («may_read» .entry)) (now («may_write» .entry)) active unlocked (now (readers .entry)) (now (writers .entry)) (now (request .entry))) ⌝ }
+{
+    let mut rank: u8 = 0;
+    while rank < 64 {
+        let asked = request[rank as usize];
+        rank += 1;
+        if asked != 0 {
+            if !may_await(
+                objects,
+                may_read,
+                may_write,
+                active,
+                unlocked,
+                readers,
+                writers,
+                asked,
+                rank,
+            ) {
+                return false;
+            }
+        }
+    }
+    true
+}

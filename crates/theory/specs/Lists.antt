@@ -1,0 +1,52 @@
+-- Demand 3 of a manager, for any list of events from a fresh state:
+-- shown from what the manager shows of one state and one event (Manages).
+use mathlib.Core.List.{List, [], _∷_}
+use Prim.Native.Nat.{ℕ, zero, suc}
+use Rattle.theory.specs.Words.{Label, Demand3}
+use Rattle.theory.specs.Machine.{View, Step, Seen, Fresh}
+use Rattle.theory.specs.Demand.{demand3}
+use Rattle.theory.specs.Build.{labelled, refused-step}
+
+-- "An event in it is any three bytes, of any kind or none,
+-- and gets the state that the event before it returned, refused or not."
+-- next: the state that an event returns; label: what demand 3 reads of the event and its answer
+module _ {State Event : Type 0} (next : State → Event → State) (label : State → Event → Label) where
+  -- the state after the first t events of the list; past its end nothing happens
+  abbrev pub stateAt : State → List Event → ℕ → State
+  stateAt s es zero = s
+  stateAt s [] (suc t) = s
+  stateAt s (e ∷ es) (suc t) = stateAt (next s e) es t
+
+  -- the label of event t of the list, counted from 0; past its end that of a refused event
+  abbrev pub labelAt : State → List Event → ℕ → Label
+  labelAt s [] t = labelled 0 0 0 0 0
+  labelAt s (e ∷ es) zero = label s e
+  labelAt s (e ∷ es) (suc t) = labelAt (next s e) es t
+
+  module _ (view : State → View) where
+    -- what a manager shows: from a good state each event is a Step to a good state,
+    -- and in a good state the question for the named lock answers as it should
+    pub record Manages (N M : ℕ) (Good : State → Type 0) : Type 0 where
+      pub keeps : (s : State) (e : Event) → Good s → Good (next s e)
+      pub steps : (s : State) (e : Event) → Good s → Step N (view s) (label s e) (view (next s e))
+      pub seen : (s : State) → Good s → Seen N M (view s)
+
+    module _ {N M : ℕ} {Good : State → Type 0} (G : Manages N M Good) where
+      good-at : (s : State) → Good s → (es : List Event) (t : ℕ) → Good (stateAt s es t)
+      good-at s g es zero = g
+      good-at s g [] (suc t) = g
+      good-at s g (e ∷ es) (suc t) = good-at (next s e) (G .keeps s e g) es t
+
+      step-at : (s : State) → Good s → (es : List Event) (t : ℕ)
+          → Step N (view (stateAt s es t)) (labelAt s es t) (view (stateAt s es (suc t)))
+      step-at s g [] zero = refused-step (view s) 0 0
+      step-at s g [] (suc t) = refused-step (view s) 0 0
+      step-at s g (e ∷ es) zero = G .steps s e g
+      step-at s g (e ∷ es) (suc t) = step-at (next s e) (G .keeps s e g) es t
+
+      -- DEMAND 3 of any list of events from a fresh state
+      pub demand3-of : (s : State) → Good s → Fresh N (view s) → (es : List Event)
+          → Demand3 (labelAt s es) (λ t. view (stateAt s es t) .names)
+      demand3-of s g F es =
+          demand3 {view = λ t. view (stateAt s es t)} {label = labelAt s es}
+          (record { fresh = F; step = step-at s g es }) (λ t. G .seen (stateAt s es t) (good-at s g es t))
