@@ -1,14 +1,14 @@
 -- Arrays whose elements count from 1: element 0, and an element past the last, is 0, and a store there changes nothing.
 -- Assumes nothing.
-use mathlib.Core.Path.{_≡_, refl, sym, ap}
+use mathlib.Core.Path.{_≡_, refl, sym, ap, _∙_}
 use mathlib.Core.Logic.{_≢_}
-use mathlib.Core.List.{List, [], _∷_}
-use Prim.Native.Nat.{ℕ, zero, suc, _+_, _-_, _≤_}
+use mathlib.Core.List.{List, [], _∷_, _++_}
+use Prim.Native.Nat.{ℕ, zero, suc, _+_, _-_, _≤_, _<_}
 use native.Mathlib.Numerals.{add-one}
 use native.Mathlib.Omega.{arith}
 use native.Mathlib.Decide.{decLe}
-use lib.ListN.{length, getD, set, length-set, List·getD-eq-default}
-use lib.Seq.{getD-set-same, getD-set-other}
+use lib.ListN.{length, getD, set, take, replicate, length-set, List·getD-eq-default}
+use lib.Seq.{getD-set-same, getD-set-other, length-take-le, take-suc, append-snoc, set-at}
 
 -- element k
 abbrev pub at : List ℕ → ℕ → ℕ
@@ -78,7 +78,32 @@ at-mapped f (suc n) [] (suc i) z e = sym z
 at-mapped f (suc n) (x ∷ xs) (suc zero) z e = refl
 at-mapped f (suc n) (x ∷ xs) (suc (suc i)) z e = at-mapped f n xs (suc i) z (omega arith)
 
--- an element by its index, which counts from 0
+-- ---- by its index, which counts from 0
+
 pub at-index : (xs : List ℕ) (k : ℕ) → 1 ≤ k → at xs k ≡ getD xs (k - 1) 0
 at-index xs zero h = absurd (omega arith)
 at-index xs (suc i) h = let back : i ≡ suc i - 1 = omega arith in ap (λ (j : ℕ). getD xs j 0) back
+
+pub put-index : (xs : List ℕ) (k v : ℕ) → 1 ≤ k → put xs k v ≡ set xs (k - 1) v
+put-index xs zero v h = absurd (omega arith)
+put-index xs (suc i) v h = let back : i ≡ suc i - 1 = omega arith in ap (λ (j : ℕ). set xs j v) back
+
+-- ---- an array of zeros
+
+pub at-zeros : (n k : ℕ) → at (replicate n 0) k ≡ 0
+at-zeros n zero = refl
+at-zeros zero (suc i) = refl
+at-zeros (suc n) (suc zero) = refl
+at-zeros (suc n) (suc (suc i)) = at-zeros n (suc i)
+
+-- ---- a turn of a loop that copies s to the front of an array of zeros
+
+pub copied-more : (s : List ℕ) (n i : ℕ) → i < n → i < length s
+    → set (take i s ++ replicate (n - i) 0) i (getD s i 0) ≡ take (i + 1) s ++ replicate (n - (i + 1)) 0
+copied-more s n i h l =
+    let rest = replicate {A = ℕ} (n - (i + 1)) 0 in
+    let one : n - i ≡ suc (n - (i + 1)) = omega arith in
+    ap (λ (k : ℕ). set (take i s ++ replicate k 0) i (getD s i 0)) one
+    ∙ set-at (take i s) 0 rest (getD s i 0) i (length-take-le i s (omega arith))
+    ∙ sym (append-snoc (take i s) (getD s i 0) rest)
+    ∙ ap (λ (t : List ℕ). t ++ rest) (sym (take-suc s i 0 l) ∙ ap (λ (k : ℕ). take k s) (sym (add-one i)))

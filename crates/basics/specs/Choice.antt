@@ -82,3 +82,18 @@ above-between low high n p e = go (leb n high) refl
 pub and-assoc : (p q r : Bool) → p && q && r ≡ p && (q && r)
 and-assoc true q r = refl
 and-assoc false q r = refl
+
+-- ---- no refusal: each condition fails
+
+pub if-zero : (n : ℕ) (t : Bool) (rest : ℕ) → (suc n if t else rest) ≡ 0 → (t ≡ false) × (rest ≡ 0)
+if-zero n true rest e = absurd (omega arith)
+if-zero n false rest e = (refl, e)
+
+pub or-else-zero : (a b : ℕ) → (a orElse b) ≡ 0 → (a ≡ 0) × (b ≡ 0)
+or-else-zero zero b e = (refl, e)
+or-else-zero (suc a) b e = absurd (omega arith)
+
+-- a refusal decides
+pub or-else-first : (a b : ℕ) → (a ≡ 0 → ⊥) → (a orElse b) ≡ a
+or-else-first zero b d = absurd (d refl)
+or-else-first (suc a) b d = refl

@@ -1,17 +1,18 @@
--- What a loop over 1, .., n finds: whether a test holds at each, the least of several numbers, the first that is not 0, lists joined.
+-- What a loop over 1, .., n finds: whether a test holds at each, the least of several numbers, the first that is not 0, lists joined, a sum.
 -- Each goes by how many are done, so that a turn of a loop is one unfolding; then its laws.
 -- Assumes nothing.
 use mathlib.Core.Path.{_≡_, refl, sym, ap, ap₂, subst, _∙_}
 use mathlib.Core.Logic.{_⊎_, inl, inr, ⊎-elim}
 use mathlib.Core.Bool.{Bool, true, false, _&&_}
 use mathlib.Core.List.{List, [], _++_}
-use Prim.Native.Nat.{ℕ, zero, suc, _+_, _≤_, _<_, min}
-use native.Mathlib.Nat.{le-refl, eq-or-lt-of-le, le-of-suc-le-suc}
+use Prim.Native.Nat.{ℕ, zero, suc, _+_, _*_, _≤_, _<_, min, zero-le}
+use native.Mathlib.Nat.{le-refl, eq-or-lt-of-le, le-of-suc-le-suc, mul-zero, mul-suc, mul-add}
 use native.Mathlib.Numerals.{add-one}
 use native.Mathlib.Omega.{arith}
 use lib.Dec.{leb}
+use lib.ListN.{length, length-append}
 use borrow.Author.Tests.{leb-true, leb-false}
-use Rattle.basics.specs.Choice.{_orElse_, clash, and-true, and-left, and-right, same-test}
+use Rattle.basics.specs.Choice.{_orElse_, clash, and-true, and-left, and-right, same-test, or-else-zero}
 
 -- p holds at each of 1, .., n
 unfoldable pub every : ℕ → (ℕ → Bool) → Bool
@@ -32,6 +33,16 @@ firstNonzero (suc n) f = firstNonzero n f orElse f (suc n)
 unfoldable pub joined : ℕ → (ℕ → List ℕ) → List ℕ
 joined zero f = []
 joined (suc n) f = joined n f ++ f (suc n)
+
+-- f 1 + .. + f n
+unfoldable pub sum : ℕ → (ℕ → ℕ) → ℕ
+sum zero f = 0
+sum (suc n) f = sum n f + f (suc n)
+
+-- 1 where a test holds and 0 where it does not: the sum of these counts
+abbrev pub oneIf : Bool → ℕ
+oneIf true = 1
+oneIf false = 0
 
 -- ---- every
 
@@ -140,8 +151,85 @@ first-nonzero-keeps m (suc n) f v e h = go (first-nonzero-keeps m n f v e) (eq-o
     go rest (inl d) = ap (λ (k : ℕ). firstNonzero k f) (sym d) ∙ e
     go rest (inr l) = rw (rest (omega arith))
 
+-- where the first is 0, all are
+pub first-nonzero-none : (n : ℕ) (f : ℕ → ℕ) (i : ℕ) → firstNonzero n f ≡ 0 → 1 ≤ i → i ≤ n → f i ≡ 0
+unfolding firstNonzero
+first-nonzero-none zero f i e l h = absurd (omega arith)
+first-nonzero-none (suc n) f i e l h =
+    let both = or-else-zero (firstNonzero n f) (f (suc n)) e in
+    ⊎-elim (λ q. ap f q ∙ both .1) (λ b. first-nonzero-none n f i (both .0) l (le-of-suc-le-suc b)) (eq-or-lt-of-le h)
+
+pub all-zero-first : (n : ℕ) (f : ℕ → ℕ) → ((i : ℕ) → 1 ≤ i → i ≤ n → f i ≡ 0) → firstNonzero n f ≡ 0
+unfolding firstNonzero
+all-zero-first zero f h = refl
+all-zero-first (suc n) f h =
+    ap₂ _orElse_ (all-zero-first n f (λ i a b. h i a (omega arith))) (h (suc n) (omega arith) (le-refl (suc n)))
+
+-- it is the first that is not 0, where those before are
+pub first-nonzero-at : (i n : ℕ) (f : ℕ → ℕ) → firstNonzero i f ≡ 0 → (f (suc i) ≡ 0 → ⊥) → i < n → firstNonzero n f ≡ f (suc i)
+unfolding firstNonzero
+first-nonzero-at i n f e d h = go (f (suc i)) refl
+  where
+    go : (v : ℕ) → f (suc i) ≡ v → firstNonzero n f ≡ f (suc i)
+    go zero q = absurd (d q)
+    go (suc v) q = first-nonzero-keeps (suc i) n f v (ap₂ _orElse_ e q) h ∙ sym q
+
+-- one more that is 0
+pub first-none-more : (n : ℕ) (f : ℕ → ℕ) → firstNonzero n f ≡ 0 → f (suc n) ≡ 0 → firstNonzero (n + 1) f ≡ 0
+unfolding firstNonzero
+first-none-more n f e z = rw add-one (ap₂ _orElse_ e z)
+
 -- ---- lists joined
 
 pub joined-more : (n : ℕ) (f : ℕ → List ℕ) → joined (n + 1) f ≡ joined n f ++ f (n + 1)
 unfolding joined
 joined-more n f = rw add-one
+
+-- ---- sums
+
+pub sum-more : (n : ℕ) (f : ℕ → ℕ) → sum (n + 1) f ≡ sum n f + f (n + 1)
+unfolding sum
+sum-more n f = rw add-one
+
+pub sum-same : (n : ℕ) (f g : ℕ → ℕ) → ((i : ℕ) → 1 ≤ i → i ≤ n → f i ≡ g i) → sum n f ≡ sum n g
+unfolding sum
+sum-same zero f g e = refl
+sum-same (suc n) f g e = ap₂ _+_ (sum-same n f g (λ i a b. e i a (omega arith))) (e (suc n) (omega arith) (le-refl (suc n)))
+
+sum-zeros : (n : ℕ) → sum n (λ i. 0) ≡ 0
+unfolding sum
+sum-zeros zero = refl
+sum-zeros (suc n) = omega (arith, sum-zeros n)
+
+sum-plus : (n : ℕ) (f g : ℕ → ℕ) → sum n f + sum n g ≡ sum n (λ i. f i + g i)
+unfolding sum
+sum-plus zero f g = refl
+sum-plus (suc n) f g = omega (arith, sum-plus n f g)
+
+pub sum-times : (n k : ℕ) (f : ℕ → ℕ) → sum n (λ i. k * f i) ≡ k * sum n f
+unfolding sum
+sum-times zero k f = sym (mul-zero k)
+sum-times (suc n) k f = ap (λ (x : ℕ). x + k * f (suc n)) (sum-times n k f) ∙ sym (mul-add k (sum n f) (f (suc n)))
+
+-- the first apart
+pub sum-first : (n : ℕ) (f : ℕ → ℕ) → sum (suc n) f ≡ f 1 + sum n (λ i. f (suc i))
+unfolding sum
+sum-first zero f = omega arith
+sum-first (suc n) f = omega (arith, sum-first n f)
+
+-- a sum of sums, by rows or by columns
+pub sum-swap : (m n : ℕ) (f : ℕ → ℕ → ℕ) → sum m (λ i. sum n (f i)) ≡ sum n (λ j. sum m (λ i. f i j))
+unfolding sum
+sum-swap zero n f = sym (sum-zeros n)
+sum-swap (suc m) n f = ap (λ (k : ℕ). k + sum n (f (suc m))) (sum-swap m n f) ∙ sum-plus n (λ j. sum m (λ i. f i j)) (f (suc m))
+
+pub sum-at-most : (n most : ℕ) (f : ℕ → ℕ) → ((i : ℕ) → 1 ≤ i → i ≤ n → f i ≤ most) → sum n f ≤ most * n
+unfolding sum
+sum-at-most zero most f h = zero-le
+sum-at-most (suc n) most f h =
+    omega (arith, mul-suc most n, sum-at-most n most f (λ i a b. h i a (omega arith)), h (suc n) (omega arith) (le-refl (suc n)))
+
+pub length-joined : (n : ℕ) (f : ℕ → List ℕ) → length (joined n f) ≡ sum n (λ i. length (f i))
+unfolding joined sum
+length-joined zero f = refl
+length-joined (suc n) f = length-append (joined n f) (f (suc n)) ∙ ap (λ (k : ℕ). k + length (f (suc n))) (length-joined n f)

@@ -10,7 +10,7 @@ use native.Mathlib.Numerals.{add-one}
 use native.Mathlib.Omega.{arith}
 use lib.Pow.{pow-lt}
 use lib.Dec.{eqb}
-use lib.Bits.{bitAnd, bitOr, bitXor, differ, and-le-l, or-lt, xor-lt}
+use lib.Bits.{bitAnd, bitOr, bitXor, differ, and-le-l, or-lt, xor-lt, xor-self}
 use lib.Count.{ones, trailingZeros, trailing-le, trailing-of-zero}
 use borrow.Author.Tests.{eqb-true, eq-eqb, ne-eqb, leb-true, le-leb}
 use Rattle.basics.specs.Choice.{clash}
@@ -199,3 +199,10 @@ one-member set (suc i) (suc j) o mq mr =
 pub member-one : (k set : ℕ) → set < 2 ^ k → ((q r : ℕ) → member set q ≡ true → member set r ≡ true → q ≡ r) → atMostOne set ≡ true
 member-one k set h one =
     le-leb (ones set) 1 (one-ones k set h (λ i j p q. omega (arith, one (suc i) (suc j) (bit-member set i p) (bit-member set j q))))
+
+-- ---- nothing can be taken out of the empty set
+
+pub without-empty : (r : ℕ) → without 0 r ≡ 0
+unfolding without
+without-empty zero = refl
+without-empty (suc i) = let none : bitAnd 0 (2 ^ i) ≡ 0 = omega (arith, and-le-l 0 (2 ^ i)) in ap (bitXor 0) none ∙ xor-self 0

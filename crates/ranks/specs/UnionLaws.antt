@@ -1,21 +1,22 @@
--- What several sets together say of each of them; which sets have ranks up to k only; when a set has no two members.
+-- What several sets together say of each of them; which sets have ranks up to k only; when a set has no two members; how many it has.
 -- Assumes nothing.
-use mathlib.Core.Path.{_≡_, refl, ap, ap₂, _∙_}
+use mathlib.Core.Path.{_≡_, refl, sym, ap, ap₂, _∙_}
 use mathlib.Core.Logic.{_⊎_, inl, inr, ⊎-elim}
-use mathlib.Core.Bool.{Bool, true, false, _&&_}
+use mathlib.Core.Bool.{Bool, true, false, _&&_, _||_}
 use Prim.Native.Nat.{ℕ, zero, suc, _+_, _-_, _*_, _/_, _%_, _^_, _≤_, _<_, min}
 use native.Mathlib.Nat.{eq-zero-or-pos, pow-suc, le-antisymm, mod-eq-of-lt}
 use native.Mathlib.Numerals.{add-one}
 use native.Mathlib.Omega.{arith}
 use native.Mathlib.Decide.{decLe}
 use lib.Dec.{eqb, ltb}
+use lib.Pow.{pow-pos}
 use lib.Bits.{bitAnd, bitXor, and-step, and-self, and-mask, mask-lt, and-le-l, and-le-r, or-add-and, xor-add-and, xor-self, or-lt}
 use lib.Count.{ones-step, ones-le, trailingZeros}
 use borrow.Author.Tests.{eqb-true, eq-eqb, leb-true, le-leb, ltb-true, lt-ltb}
-use Rattle.basics.specs.Choice.{clash, same-test, and-true, and-left, and-right}
-use Rattle.basics.specs.Loops.{every}
+use Rattle.basics.specs.Choice.{clash, same-test, and-true, and-left, and-right, or-right}
+use Rattle.basics.specs.Loops.{every, sum, oneIf, sum-same, sum-first}
 use Rattle.ranks.specs.Ranks.{bit, member, first, union, minus, butFirst, subset, size, atMostOne, upTo, unions}
-use Rattle.ranks.specs.Bits.{bit-lt, or-bit, trailing-set, trailing-lt, ones-pos}
+use Rattle.ranks.specs.Bits.{bit-lt, bit-zero, bit-suc, or-bit, trailing-set, trailing-lt, ones-pos}
 use Rattle.ranks.specs.RankLaws.{member-bit, bit-member, member-zero, subset-member, member-subset, first-least, first-member, first-le}
 
 -- ---- the members of two sets together
@@ -38,8 +39,22 @@ union-either a b (suc i) m = go (member a (suc i)) refl
         let no : bit a i ≡ 1 → ⊥ = (λ u. clash (bit-member a i u) e) in
         inr (bit-member b i (omega (arith, or-bit a b i, member-bit (union a b) i m, bit-lt a i, bit-lt b i, no)))
 
+pub member-union : (a b r : ℕ) → member (union a b) r ≡ member a r || member b r
+member-union a b r =
+    same-test (member (union a b) r) (member a r || member b r)
+    (λ m. ⊎-elim (λ p. ap (λ (t : Bool). t || member b r) p) (λ p. or-right (member a r) (member b r) p) (union-either a b r m))
+    (λ e. go (member a r) refl e)
+  where
+    go : (t : Bool) → member a r ≡ t → t || member b r ≡ true → member (union a b) r ≡ true
+    go true m e = union-left a b r m
+    go false m e = union-right a b r e
+
 pub union-lt : (k a b : ℕ) → a < 2 ^ k → b < 2 ^ k → union a b < 2 ^ k
 union-lt = or-lt
+
+-- each set is at most both together
+pub le-union : (a b : ℕ) → (a ≤ union a b) × (b ≤ union a b)
+le-union a b = (omega (arith, or-add-and a b, and-le-r a b), omega (arith, or-add-and a b, and-le-l a b))
 
 -- the most urgent of both sets is the more urgent of theirs
 pub first-union : (k a b : ℕ) → first k (union a b) ≡ min (first k a) (first k b)
@@ -170,3 +185,31 @@ but-first-at-most-one n =
     same-test (eqb (butFirst n) 0) (atMostOne n)
     (λ t. le-leb (size n) 1 (both .0 (eqb-true (butFirst n) 0 t)))
     (λ t. eq-eqb (butFirst n) 0 (both .1 (leb-true (size n) 1 t)))
+
+pub empty-at-most-one : atMostOne 0 ≡ true
+empty-at-most-one = le-leb (size 0) 1 (omega (arith, ones-le 0 0 (pow-pos 0)))
+
+-- ---- the size of a set, counted rank by rank
+
+count-bit : (set i : ℕ) → oneIf (member set (suc i)) ≡ bit set i
+unfolding member
+count-bit set i = go (bit set i) (bit-lt set i)
+  where
+    go : (b : ℕ) → b < 2 → oneIf (eqb b 1) ≡ b
+    go zero h = refl
+    go (suc zero) h = refl
+    go (suc (suc b)) h = absurd (omega arith)
+
+pub size-counts : (k set : ℕ) → set < 2 ^ k → size set ≡ sum k (λ r. oneIf (member set r))
+unfolding sum
+size-counts zero set h = omega (arith, ones-le 0 set h)
+size-counts (suc k) set h =
+    let half : set / 2 < 2 ^ k = omega (arith, pow-suc 2 k) in
+    ones-step set
+    ∙ ap₂ _+_ (sym (count-bit set 0 ∙ bit-zero set))
+    (size-counts k (set / 2) half ∙ sum-same k (λ r. oneIf (member (set / 2) r)) (λ r. oneIf (member set (suc r))) next)
+    ∙ sym (sum-first k (λ r. oneIf (member set r)))
+  where
+    next : (r : ℕ) → 1 ≤ r → r ≤ k → oneIf (member (set / 2) r) ≡ oneIf (member set (suc r))
+    next zero a b = absurd (omega arith)
+    next (suc i) a b = count-bit (set / 2) i ∙ sym (count-bit set (suc i) ∙ bit-suc set i)

@@ -5,9 +5,10 @@ use mathlib.Core.Bool.{Bool, not, _&&_, _||_}
 use lib.Dec.{eqb, ltb}
 use Rattle.basics.specs.Choice.{if_then_else_, _if_else_}
 use Rattle.basics.specs.Loops.{firstNonzero}
+use Rattle.ranks.specs.Ranks.{member}
 use Rattle.state.specs.declared.State.{State}
-use Rattle.state.specs.State.{write, holds, isWaiting}
-use Rattle.rule.specs.Weights.{writeCeiling}
+use Rattle.state.specs.State.{write, holders, declared, requestOf, isWaiting}
+use Rattle.rule.specs.Weights.{ceilingOf}
 use Rattle.rule.specs.Keys.{noKey, keyWeight, keyHolder, keyObject, lowestKey, oldLowestKey}
 
 -- "A request is granted if the requester's rank is more urgent than the weight of every lock held by others."
@@ -20,9 +21,13 @@ passes s j = passesBelow j (lowestKey s j)
 abbrev pub oldPasses : State → ℕ → Bool
 oldPasses s j = passesBelow j (oldLowestKey s j)
 
--- "It names the lock of another job with the most urgent weight"; "a waiting job whose request would pass names nobody"
+-- "It names the lock of another job with the most urgent weight"; "a waiting job whose request would pass names nobody":
+-- of j's request and the lowest key among the locks of others
+abbrev pub namedKeyOf : ℕ → ℕ → ℕ → ℕ
+namedKeyOf request key j = if not (eqb request 0) && not (passesBelow j key) then key else noKey
+
 unfoldable pub namedKey : State → ℕ → ℕ
-namedKey s j = if isWaiting s j && not (passes s j) then lowestKey s j else noKey
+namedKey s j = namedKeyOf (requestOf s j) (lowestKey s j) j
 
 -- the named rank and object, 0 and 0 if j names nobody
 abbrev pub namedHolder : State → ℕ → ℕ
@@ -31,13 +36,16 @@ namedHolder s j = keyHolder (namedKey s j)
 abbrev pub namedObject : State → ℕ → ℕ
 namedObject s j = keyObject (namedKey s j)
 
--- why a request for o in mode m waits for the lock that h holds on p: "1 conflict, if the named lock is on the requested object and either
+-- why a request for o in mode m waits for the lock that h holds on p, whose writers and declared writers are given: "1 conflict, if the named lock is on the requested object and either
 -- is a write; else 3 cap, if it is a read lock whose holder is more urgent than the write ceiling; else 2 ceiling"
-unfoldable pub reason : State → ℕ → ℕ → ℕ → ℕ → ℕ
-reason s m o h p =
-    1 if eqb p o && (eqb m write || holds s write h p) else
-    3 if not (holds s write h p) && ltb h (writeCeiling s p) else
+abbrev pub reasonOf : ℕ → ℕ → ℕ → ℕ → ℕ → ℕ → ℕ
+reasonOf m o h p writers mayWrite =
+    1 if eqb p o && (eqb m write || member writers h) else
+    3 if not (member writers h) && ltb h (ceilingOf mayWrite) else
     2
+
+unfoldable pub reason : State → ℕ → ℕ → ℕ → ℕ → ℕ
+reason s m o h p = reasonOf m o h p (holders s write p) (declared s write p)
 
 -- j, if it waits and its request passes; else 0
 abbrev pub wakes : State → ℕ → ℕ

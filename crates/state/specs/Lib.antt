@@ -3,3 +3,8 @@ pub mod State
 pub mod WellFormed
 pub mod Clauses
 pub mod Survey
+pub mod Modes
+pub mod Facts
+pub mod WellFormedFacts
+pub mod Changes
+pub mod Keeping

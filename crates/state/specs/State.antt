@@ -144,26 +144,30 @@ activate s r = withLocks s (with (s .active) r) (s .unlocked) (s .readers) (s .w
 unfoldable pub await : State → ℕ → ℕ → ℕ → State
 await s m r o = withLocks s (s .active) (s .unlocked) (s .readers) (s .writers) (put (s .request) r (requestFor m o))
 
+-- what a grant to r in mode m on o makes of the sets of readers, and of the sets of writers
+abbrev pub grantReaders : ℕ → ℕ → ℕ → List ℕ → List ℕ
+grantReaders m r o sets = put sets o (if eqb m read then with (at sets o) r else without (at sets o) r)
+
+abbrev pub grantWriters : ℕ → ℕ → ℕ → List ℕ → List ℕ
+grantWriters m r o sets = if eqb m read then sets else put sets o (with (at sets o) r)
+
 -- r gets a lock and waits no longer; a write lock replaces its read lock
 unfoldable pub grant : State → ℕ → ℕ → ℕ → State
-grant s m r o =
-    withLocks s (s .active) (s .unlocked)
-    (put (s .readers) o (if eqb m read then with (holders s read o) r else without (holders s read o) r))
-    (if eqb m read then s .writers else put (s .writers) o (with (holders s write o) r))
-    (put (s .request) r 0)
+grant s m r o = withLocks s (s .active) (s .unlocked) (grantReaders m r o (s .readers)) (grantWriters m r o (s .writers)) (put (s .request) r 0)
+
+-- r taken out of the set of o
+abbrev pub releaseSet : ℕ → ℕ → List ℕ → List ℕ
+releaseSet r o sets = put sets o (without (at sets o) r)
 
 -- r gives up its lock on o, and is marked
 unfoldable pub release : State → ℕ → ℕ → State
-release s r o =
-    withLocks s (s .active) (with (s .unlocked) r)
-    (put (s .readers) o (without (holders s read o) r))
-    (put (s .writers) o (without (holders s write o) r))
-    (s .request)
+release s r o = withLocks s (s .active) (with (s .unlocked) r) (releaseSet r o (s .readers)) (releaseSet r o (s .writers)) (s .request)
+
+-- r taken out of every set
+abbrev pub releaseSets : ℕ → List ℕ → List ℕ
+releaseSets r sets = mapped (λ v. without v r) mostObjects sets
 
 -- r's run ends: it is idle, unmarked, holds nothing and waits for nothing
 unfoldable pub endRun : State → ℕ → State
 endRun s r =
-    withLocks s (without (s .active) r) (without (s .unlocked) r)
-    (mapped (λ v. without v r) mostObjects (s .readers))
-    (mapped (λ v. without v r) mostObjects (s .writers))
-    (put (s .request) r 0)
+    withLocks s (without (s .active) r) (without (s .unlocked) r) (releaseSets r (s .readers)) (releaseSets r (s .writers)) (put (s .request) r 0)

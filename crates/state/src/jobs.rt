@@ -5,9 +5,12 @@ ghost use Prim.Native.Nat.{_≤_};
 ghost use lib.Dec.{eqb};
 ghost use Rattle.basics.specs.Choice.{between};
 ghost use Rattle.state.specs.State.{ofMode, stateOf};
-ghost use Rattle.state.specs.WellFormed.{processorsFit, mayAwait, waitsFit};
+ghost use Rattle.state.specs.WellFormed.{countsWithin, processorsFit, mayAwait, waitsFit};
 ghost use Rattle.state.specs.State.{modeIn, objectIn};
 ghost use Rattle.state.specs.Survey.{mayAsk};
+use crate::JobProcessors;
+use crate::JobRequests;
+use crate::ObjectSets;
 use ranks::RankSet;
 
 // Whether the number is one of low to high.
@@ -17,8 +20,15 @@ pub fn within(low: u8, high: u8, n: u8) -> bool
     (low <= n) & (n <= high)
 }
 
+// Whether the numbers of processors, jobs and objects are within their limits.
+pub fn counts_within(processors: u8, jobs: u8, objects: u8) -> bool
+    ensures { λ r. ⌜ r ≡ countsWithin processors jobs objects ⌝ }
+{
+    within(1, 8, processors) & within(1, 64, jobs) & within(1, 128, objects)
+}
+
 // Whether each job's processor is one of the table's.
-pub fn processors_fit(processors: u8, jobs: u8, processor_of: &[u8; 64]) -> bool
+pub fn processors_fit(processors: u8, jobs: u8, processor_of: &JobProcessors) -> bool
     requires { ⌜ jobs ≤ 64 ⌝ }
     ensures { λ r. ⌜ r ≡ processorsFit (stateOf processors jobs 0 (now («processor_of» .entry)) [] [] 0 0 [] [] []) ⌝ }
 {
@@ -58,12 +68,12 @@ fn may_ask(
 // Whether a rank may be waiting for the request: a lock of a mode on an object of the table that it may ask for, in a run without an unlock.
 fn may_await<'a>(
     objects: u8,
-    may_read: &'a [RankSet; 128],
-    may_write: &'a [RankSet; 128],
+    may_read: &'a ObjectSets,
+    may_write: &'a ObjectSets,
     active: RankSet,
     unlocked: RankSet,
-    readers: &'a [RankSet; 128],
-    writers: &'a [RankSet; 128],
+    readers: &'a ObjectSets,
+    writers: &'a ObjectSets,
     request: u16,
     rank: u8,
 ) -> bool
@@ -92,13 +102,13 @@ fn may_await<'a>(
 // Whether each waiting job may be waiting for its request.
 pub fn waits_fit<'a>(
     objects: u8,
-    may_read: &'a [RankSet; 128],
-    may_write: &'a [RankSet; 128],
+    may_read: &'a ObjectSets,
+    may_write: &'a ObjectSets,
     active: RankSet,
     unlocked: RankSet,
-    readers: &'a [RankSet; 128],
-    writers: &'a [RankSet; 128],
-    request: &'a [u16; 64],
+    readers: &'a ObjectSets,
+    writers: &'a ObjectSets,
+    request: &'a JobRequests,
 ) -> bool
     requires { ⌜ objects ≤ 128 ⌝ }
     ensures { λ r. ⌜ r ≡ waitsFit (stateOf 0 0 objects [] (now («may_read» .entry)) (now («may_write» .entry)) active unlocked (now (readers .entry)) (now (writers .entry)) (now (request .entry))) ⌝ }

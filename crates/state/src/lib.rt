@@ -6,25 +6,34 @@ ghost use Rattle.state.specs.WellFormed.{wellFormed};
 mod jobs;
 mod locks;
 
+pub use jobs::counts_within;
+pub use jobs::of_mode;
 use jobs::processors_fit;
 use jobs::waits_fit;
-use jobs::within;
+pub use jobs::within;
 use locks::survey_objects;
 use ranks::RankSet;
+
+// A processor, a request, for each rank; a set of ranks for each object.
+pub type JobProcessors = [u8; 64];
+
+pub type JobRequests = [u16; 64];
+
+pub type ObjectSets = [RankSet; 128];
 
 // The table and the locks. A rank's element stands at rank - 1, an object's at object - 1.
 pub struct State {
     pub processors: u8,
     pub jobs: u8,
     pub objects: u8,
-    pub processor_of: [u8; 64],
-    pub may_read: [RankSet; 128],
-    pub may_write: [RankSet; 128],
+    pub processor_of: JobProcessors,
+    pub may_read: ObjectSets,
+    pub may_write: ObjectSets,
     pub active: RankSet,
     pub unlocked: RankSet,
-    pub readers: [RankSet; 128],
-    pub writers: [RankSet; 128],
-    pub request: [u16; 64],
+    pub readers: ObjectSets,
+    pub writers: ObjectSets,
+    pub request: JobRequests,
 }
 
 // Whether the state with these parts is well formed.
@@ -32,19 +41,19 @@ pub fn fits<'a>(
     processors: u8,
     jobs: u8,
     objects: u8,
-    processor_of: &'a [u8; 64],
-    may_read: &'a [RankSet; 128],
-    may_write: &'a [RankSet; 128],
+    processor_of: &'a JobProcessors,
+    may_read: &'a ObjectSets,
+    may_write: &'a ObjectSets,
     active: RankSet,
     unlocked: RankSet,
-    readers: &'a [RankSet; 128],
-    writers: &'a [RankSet; 128],
-    request: &'a [u16; 64],
+    readers: &'a ObjectSets,
+    writers: &'a ObjectSets,
+    request: &'a JobRequests,
 ) -> bool
     ensures { λ r. ⌜ r ≡ wellFormed (stateOf processors jobs objects (now («processor_of» .entry)) (now («may_read» .entry)) (now («may_write» .entry))
         active unlocked (now (readers .entry)) (now (writers .entry)) (now (request .entry))) ⌝ }
 {
-    if !(within(1, 8, processors) & within(1, 64, jobs) & within(1, 128, objects)) {
+    if !counts_within(processors, jobs, objects) {
         return false;
     }
     let all = ranks::up_to(jobs);

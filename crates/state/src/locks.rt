@@ -3,6 +3,7 @@ ghost use mathlib.Core.Path.{_≡_};
 ghost use lib.Dec.{eqb};
 ghost use Rattle.basics.specs.Choice.{if_then_else_};
 ghost use Rattle.state.specs.Survey.{objectWrong, surveyOf};
+use crate::ObjectSets;
 use ranks::RankSet;
 
 // Of all objects together: the ranks declared, the ranks that hold a lock, and a set that is empty if each object by itself is in order.
@@ -38,10 +39,10 @@ fn object_wrong(
 
 // What the objects of a table of so many objects say together.
 pub fn survey_objects<'a>(
-    may_read: &'a [RankSet; 128],
-    may_write: &'a [RankSet; 128],
-    readers: &'a [RankSet; 128],
-    writers: &'a [RankSet; 128],
+    may_read: &'a ObjectSets,
+    may_write: &'a ObjectSets,
+    readers: &'a ObjectSets,
+    writers: &'a ObjectSets,
     objects: u8,
 ) -> Survey
     ensures { λ r. ⌜ r ≡ surveyOf (now («may_read» .entry)) (now («may_write» .entry)) (now (readers .entry)) (now (writers .entry)) objects ⌝ }

@@ -1,5 +1,21 @@
 // Table bytes read: the fresh state that they declare, and one job's entries.
 ghost use mathlib.Core.Path.{_≡_};
+ghost use Rattle.state.specs.State.{freshState, zeroState};
+ghost use Rattle.table.specs.Refusals.{tableRefusal};
+ghost use Rattle.table.specs.Reading.{tableState, readTable};
+
+mod bytes;
+mod job;
+mod refusals;
+mod rights;
+
+use bytes::table_length;
+pub use bytes::wide;
+pub use job::job_entries;
+use ranks::RankSet;
+use refusals::table_refusal;
+use rights::declared;
+use rights::processors_of;
 use state::State;
 
 // What the table reader returns: the refusal's number or 0, how many bytes the table has, its fresh state.
@@ -7,4 +23,79 @@ pub struct TableRead {
     pub refusal: u8,
     pub used: usize,
     pub state: State,
+}
+
+// The state of the table in which every job is idle and every object unlocked.
+fn fresh_state(
+    processors: u8,
+    jobs: u8,
+    objects: u8,
+    processor_of: [u8; 64],
+    may_read: [RankSet; 128],
+    may_write: [RankSet; 128],
+) -> State
+    ensures { λ r. ⌜ r ≡ freshState processors jobs objects «processor_of» «may_read» «may_write» ⌝ }
+{
+    State {
+        processors,
+        jobs,
+        objects,
+        processor_of,
+        may_read,
+        may_write,
+        active: 0,
+        unlocked: 0,
+        readers: [0; 128],
+        writers: [0; 128],
+        request: [0; 64],
+    }
+}
+
+// The state whose numbers are all 0.
+fn zero_state() -> State
+    ensures { λ r. ⌜ r ≡ zeroState ⌝ }
+{
+    fresh_state(0, 0, 0, [0; 64], [0; 128], [0; 128])
+}
+
+// The fresh state of accepted table bytes.
+fn table_state(bytes: &[u8]) -> State
+    requires { ⌜ tableRefusal (now bytes) ≡ 0 ⌝ }
+    ensures { λ r. ⌜ r ≡ tableState (now (bytes .entry)) ⌝ }
+{
+    let processors = processors_of(bytes);
+    let rights = declared(bytes);
+    let may_read = rights.may_read;
+    let may_write = rights.may_write;
+    fresh_state(
+        bytes[5],
+        bytes[6],
+        bytes[7],
+        processors,
+        may_read,
+        may_write,
+    )
+}
+
+// The fresh state that the table bytes declare and how many bytes the table has. Bytes behind the table are not looked at.
+// On a refusal its number, 0 bytes and a state whose numbers are all 0.
+pub fn read_table(bytes: &[u8]) -> TableRead
+    ensures { λ r. ⌜ r ≡ readTable (now (bytes .entry)) ⌝ }
+{
+    let refusal = table_refusal(bytes);
+    if refusal != 0 {
+        let state = zero_state();
+        return TableRead {
+            refusal,
+            used: 0,
+            state,
+        };
+    }
+    let used = table_length(bytes);
+    let state = table_state(bytes);
+    TableRead {
+        refusal: 0,
+        used,
+        state,
+    }
 }

@@ -25,29 +25,18 @@ whole c = let a = c .args in
     stateOf (a .processors) (a .jobs) (a .objects) (now (a .processor-of)) (now (a .may-read)) (now (a .may-write))
     (a .active) (a .unlocked) (now (a .readers)) (now (a .writers)) (now (a .request))
 
--- what the three tests of the counts say
-counts : (c : tie.After-within3) → c .before .before .within .result && c .before .within2 .result && c .within3 .result ≡ countsFit (whole (c .before .before .before))
-counts c = ap₂ _&&_ (ap₂ _&&_ (c .before .before .within .ensures) (c .before .within2 .ensures)) (c .within3 .ensures)
+good-counts : (c : tie.Else1) → countsFit (whole (c .before .before)) ≡ true
+good-counts c = sym (c .before .counts-within .ensures) ∙ not-false (c .before .counts-within .result) (c .if1 .left)
 
-good-counts : (c : tie.Else1) → countsFit (whole (c .before .before .before .before)) ≡ true
-good-counts c =
-    sym (counts (c .before))
-    ∙ not-false (c .before .before .before .within .result && c .before .before .within2 .result && c .before .within3 .result) (c .if1 .left)
+limits : (c : tie.Else1) → let a = c .before .before .args in Within (a .processors) (a .jobs) (a .objects)
+limits c = let a = c .before .before .args in counts-within (a .processors) (a .jobs) (a .objects) (good-counts c)
 
-limits : (c : tie.Else1) → let a = c .before .before .before .before .args in Within (a .processors) (a .jobs) (a .objects)
-limits c = let a = c .before .before .before .before .args in counts-within (a .processors) (a .jobs) (a .objects) (good-counts c)
-
-within-requires : tie.Need-within-requires
-within-requires c κs = search needs
-
-within-requires-2 : tie.Need-within-requires-2
-within-requires-2 c κs = search needs
-
-within-requires-3 : tie.Need-within-requires-3
-within-requires-3 c κs = search needs
+counts-within-requires : tie.Need-counts-within-requires
+counts-within-requires c κs = search needs
 
 returns : tie.Need-returns
-returns c = sym (bad-counts (whole (c .before .before .before .before)) (sym (counts (c .before)) ∙ not-true (c .before .before .before .within .result && c .before .before .within2 .result && c .before .within3 .result) (c .if1 .taken)))
+returns c =
+    sym (bad-counts (whole (c .before .before)) (sym (c .before .counts-within .ensures) ∙ not-true (c .before .counts-within .result) (c .if1 .taken)))
 
 up-to-requires : tie.Need-up-to-requires
 up-to-requires c κs = limits c .jobs .1
@@ -76,7 +65,7 @@ waits-fit-requires c κs = limits (c .before .before .before .before .before .be
 returns-2 : tie.Need-returns-2
 unfolding processorsFit waitsFit
 returns-2 c =
-    let s = whole (c .before .before .before .before .before .before .before .before .before .before .before .before .before) in
+    let s = whole (c .before .before .before .before .before .before .before .before .before .before .before) in
     let seen = c .before .before .before .before .before .before .before .survey-objects .ensures in
     let all = c .before .before .before .before .before .before .before .before .up-to .ensures in
     let objects = ap (λ (v : Survey). eqb (v .wrong) 0) seen in
@@ -90,9 +79,7 @@ pub fits-spec : {M : Type 1} → statement M
 fits-spec =
     tie.close
     (tie.spec
-    within-requires
-    within-requires-2
-    within-requires-3
+    counts-within-requires
     returns
     up-to-requires
     survey-objects-requires

@@ -1,0 +1,77 @@
+// Changes of a state's parts, in place.
+ghost use mathlib.Core.Path.{_≡_};
+ghost use Prim.Native.Nat.{_≤_};
+ghost use Rattle.basics.specs.Arrays.{put};
+ghost use Rattle.ranks.specs.Ranks as R;
+ghost use Rattle.state.specs.State.{modeIn, objectIn, grantReaders, grantWriters, releaseSet, releaseSets};
+use state::JobRequests;
+use state::ObjectSets;
+
+// Gives the rank its lock on the object, and ends its wait; a write lock replaces its read lock.
+pub fn grant(
+    readers: &mut ObjectSets,
+    writers: &mut ObjectSets,
+    request: &mut JobRequests,
+    mode: u8,
+    rank: u8,
+    object: u8,
+)
+    requires { ⌜ (1 ≤ rank) × (rank ≤ 64) × (1 ≤ object) × (object ≤ 128) ⌝ }
+    ensures { λ _. ⌜ (now (readers .exit) ≡ grantReaders mode rank object (now (readers .entry)))
+        × (now (writers .exit) ≡ grantWriters mode rank object (now (writers .entry)))
+        × (now (request .exit) ≡ put (now (request .entry)) rank 0) ⌝ }
+{
+    let i = (object - 1) as usize;
+    let j = (rank - 1) as usize;
+    request[j] = 0;
+    if mode == 1 {
+        readers[i] = ranks::with(readers[i], rank);
+    } else {
+        readers[i] = ranks::without(readers[i], rank);
+        writers[i] = ranks::with(writers[i], rank);
+    }
+}
+
+// Takes the rank out of the object's set.
+pub fn release_set(sets: &mut ObjectSets, rank: u8, object: u8)
+    requires { ⌜ (1 ≤ rank) × (rank ≤ 64) × (1 ≤ object) × (object ≤ 128) ⌝ }
+    ensures { λ _. ⌜ now (sets .exit) ≡ releaseSet rank object (now (sets .entry)) ⌝ }
+{
+    let i = (object - 1) as usize;
+    sets[i] = ranks::without(sets[i], rank);
+}
+
+// Takes the rank out of every set.
+pub fn release_sets(sets: &mut ObjectSets, rank: u8)
+    requires { ⌜ (1 ≤ rank) × (rank ≤ 64) ⌝ }
+    ensures { λ _. ⌜ now (sets .exit) ≡ releaseSets rank (now (sets .entry)) ⌝ }
+{
+    let mut i: usize = 0;
+    while i < 128 {
+        sets[i] = ranks::without(sets[i], rank);
+        i += 1;
+    }
+}
+
+// The mode of a request.
+pub fn mode_in(request: u16) -> u8
+    ensures { λ r. ⌜ r ≡ modeIn request ⌝ }
+{
+    (request / 256) as u8
+}
+
+// The object of a request.
+pub fn object_in(request: u16) -> u8
+    ensures { λ r. ⌜ r ≡ objectIn request ⌝ }
+{
+    (request % 256) as u8
+}
+
+// Stores the rank's request.
+pub fn store_request(requests: &mut JobRequests, rank: u8, request: u16)
+    requires { ⌜ (1 ≤ rank) × (rank ≤ 64) ⌝ }
+    ensures { λ _. ⌜ now (requests .exit) ≡ put (now (requests .entry)) rank request ⌝ }
+{
+    let j = (rank - 1) as usize;
+    requests[j] = request;
+}

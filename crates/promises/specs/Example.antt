@@ -1,0 +1,85 @@
+-- The example of 01 ("The bench record"), in one table under one theorem: its twelve answers, and the three questions asked on the way.
+-- Assumes nothing.
+use Prim.Native.Nat.{ℕ}
+use mathlib.Core.Path.{_≡_, refl}
+use mathlib.Core.List.{List, [], _∷_}
+use lib.Count.{trailingZeros, ones}
+use Rattle.basics.specs.Loops.{every, least, firstNonzero}
+use Rattle.basics.specs.Arrays.{mapped}
+use Rattle.ranks.specs.Ranks.{member, with, without, first}
+use Rattle.state.specs.declared.State.{State}
+use Rattle.state.specs.State.{activate, await, grant, release, endRun}
+use Rattle.state.specs.WellFormed.{processorsFit, declarationsFit, aboveIdle, locksFit, oneLockEach}
+use Rattle.state.specs.WellFormed.{writersAlone, waitsFit, marksFit, wellFormed}
+use Rattle.table.specs.Refusals.{headerRefusal, lengthRefusal, processorRefusal, entryRefusal, entriesRefusal, tableRefusal}
+use Rattle.table.specs.Example.{example}
+use Rattle.table.specs.Reading.{processorsOf, withRight, declaredIn, tableState, readTable}
+use Rattle.rule.specs.Weights.{weight}
+use Rattle.rule.specs.Keys.{othersKey, objectKey, lowestKeyBy}
+use Rattle.rule.specs.Granting.{namedKey, reason, wakeable}
+use Rattle.rule.specs.Running as R
+use Rattle.rule.specs.Running.{runningRank}
+use Rattle.manager.specs.declared.RankAnswer.{RankAnswer}
+use Rattle.manager.specs.declared.RankAnswer.the-variants.{Rank}
+use Rattle.manager.specs.Answers.{Paper, paper}
+use Rattle.manager.specs.Refusals as E
+use Rattle.manager.specs.Refusals.{eventRefusal, refusal, jobRefusal}
+use Rattle.manager.specs.Events.{requestMeeting, woken, wake, accepted, step}
+use Rattle.manager.specs.Questions.{inheritedRank, running}
+
+-- ---- the four answers, by their number and values
+
+abbrev pub granted : Paper
+granted = record { number = 1; values = [] }
+
+abbrev pub waits : (holder object reason : ℕ) → Paper
+waits holder object reason = record { number = 2; values = holder ∷ object ∷ reason ∷ [] }
+
+abbrev pub done : (woken : ℕ) → Paper
+done woken = record { number = 3; values = woken ∷ [] }
+
+-- ---- a line: an event with its answer, a question for a job's inherited rank, or one for the rank that a processor runs
+pub data Line : Type 0 where
+  event : (kind rank object : ℕ) → Paper → Line
+  inherits : (job : ℕ) → RankAnswer → Line
+  runs : (processor : ℕ) → RankAnswer → Line
+
+-- the same events and questions, with the answers that the manager gives
+unfoldable pub replay : State → List Line → List Line
+replay s [] = []
+replay s (event k r o a ∷ rest) = event k r o (paper (step s k r o .answer)) ∷ replay (step s k r o .state) rest
+replay s (inherits j a ∷ rest) = inherits j (inheritedRank s j) ∷ replay s rest
+replay s (runs p a ∷ rest) = runs p (running s p) ∷ replay s rest
+
+-- "those twelve answers, and that after event 4 job 4 has inherited rank 2, after 7 processor 0 is idle,
+-- after 11 job 3 has inherited rank 1"
+unfoldable pub exampleLines : List Line
+exampleLines =
+    event 1 4 0 (done 0)
+    ∷ event 2 4 1 granted
+    ∷ event 1 2 0 (done 0)
+    ∷ event 2 2 2 (waits 4 1 2)
+    ∷ inherits 4 (Rank 2)
+    ∷ event 4 4 1 (done 2)
+    ∷ event 1 3 0 (done 0)
+    ∷ event 2 3 1 (waits 2 2 3)
+    ∷ runs 0 (Rank 0)
+    ∷ event 2 2 3 granted
+    ∷ event 5 2 0 (done 3)
+    ∷ event 1 1 0 (done 0)
+    ∷ event 3 1 1 (waits 3 1 1)
+    ∷ inherits 3 (Rank 1)
+    ∷ event 5 3 0 (done 1)
+    ∷ []
+
+-- the reader accepts the bytes of the table, `example` in table/specs/Example.antt, and the manager answers the lines as they stand
+pub example-answers : (readTable example .refusal ≡ 0) × (replay (readTable example .state) exampleLines ≡ exampleLines)
+unfolding exampleLines replay
+    every least firstNonzero mapped member with without first trailingZeros ones
+    activate await grant release endRun
+    processorsFit declarationsFit aboveIdle locksFit oneLockEach writersAlone waitsFit marksFit wellFormed
+    headerRefusal lengthRefusal processorRefusal entryRefusal entriesRefusal tableRefusal
+    processorsOf withRight declaredIn tableState readTable
+    weight othersKey objectKey lowestKeyBy namedKey reason wakeable R.inheritedRank runningRank
+    eventRefusal refusal jobRefusal E.processorRefusal requestMeeting woken wake accepted step inheritedRank running
+example-answers = (refl, refl)

@@ -1,0 +1,14 @@
+-- Promises.antt states what is promised of the manager as a whole, in the terms of Terms.antt; the files between the two prove it.
+-- Example.antt has the example of document 01.
+pub mod Terms
+pub mod Weights
+pub mod View
+pub mod Frames
+pub mod Waking
+pub mod Accepted
+pub mod Steps
+pub mod ReachedStates
+pub mod OldRule
+pub mod TableStates
+pub mod Promises
+pub mod Example

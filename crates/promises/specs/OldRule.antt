@@ -1,0 +1,209 @@
+-- One processor: in a state that is reached, a request of the job that the processor runs passes by both rules, or meets the same lock.
+-- The job that runs is the most urgent holder, or more urgent than every holder; so each lock that stops it weighs the same by both rules.
+-- Assumes nothing.
+use mathlib.Core.Path.{_≡_, refl, sym, subst, ap, _∙_}
+use mathlib.Core.Logic.{_≢_, _⊎_, inl, inr}
+use mathlib.Core.Bool.{Bool, true, false, not, _&&_}
+use Prim.Native.Nat.{ℕ, zero, suc, _+_, _*_, _≤_, _<_}
+use native.Mathlib.Omega.{arith}
+use native.Mathlib.Decide.{ℕ-discrete, decLt}
+use lib.Dec.{eqb}
+use borrow.Author.Tests.{eqb-false, eq-eqb, ne-eqb, lt-ltb}
+use Rattle.basics.specs.Choice.{if_then_else_, _if_else_, between-true}
+use Rattle.basics.specs.Loops.{least, least-top, least-le, least-at}
+use Rattle.ranks.specs.Ranks.{limit}
+use Rattle.state.specs.declared.State.{State}
+use Rattle.state.specs.State.{processorOf, isActive, requestOf}
+use Rattle.state.specs.Facts.{Facts}
+use Rattle.state.specs.Modes.{either-mode}
+use Rattle.state.specs.WellFormedFacts.{facts-well-formed, held-rank}
+use Rattle.rule.specs.Weights.{writeCeiling, absoluteCeiling, moreUrgent, weight, oldWeight}
+use Rattle.rule.specs.Keys.{noKey, keyWeight, keyHolder, lowestKey, oldLowestKey}
+use Rattle.rule.specs.KeyLaws.{OthersLock, KeyOfOther, key-below, key-top, key-at, le-key}
+use Rattle.rule.specs.Granting.{passes, oldPasses, namedKey}
+use Rattle.rule.specs.Running as R
+use Rattle.rule.specs.Running.{inheritedFrom, isReady, readyKey, runningRank}
+use Rattle.manager.specs.Answers.{paper, rankValue}
+use Rattle.manager.specs.Refusals.{isRequest, modeOf, refusal, processorRefusal}
+use Rattle.manager.specs.Events.{requestMeeting, request, accepted, step}
+use Rattle.manager.specs.Questions.{running}
+use Rattle.theory.specs.Keeps.{TopHolder, named-top, top-not-waiting}
+use Rattle.promises.specs.Terms.{named, oldRequest}
+use Rattle.promises.specs.Weights.{lockWeight, lock-below, weight-small, lock-held}
+use Rattle.promises.specs.View.{as-number-true, view, waits-requested, no-request, names-lowest, seen}
+use Rattle.promises.specs.Accepted.{not-refused}
+use Rattle.promises.specs.ReachedStates.{Kept}
+
+-- ---- the two weights
+
+module _ (s : State) where
+  old-above : (m r o : ℕ) → weight s m r o ≤ oldWeight s m r o
+  unfolding weight oldWeight
+  old-above m r o =
+      either-mode (λ f. f (moreUrgent (writeCeiling s o) r) (absoluteCeiling s o) ≤ f (writeCeiling s o) (absoluteCeiling s o))
+      (omega arith) (omega arith) m
+
+  -- a lock of a job less urgent than j that stops j weighs the same by both
+  old-same : (j m r o : ℕ) → j < r → weight s m r o ≤ j → oldWeight s m r o ≡ weight s m r o
+  unfolding weight oldWeight
+  old-same j m r o l =
+      either-mode (λ f. f (moreUrgent (writeCeiling s o) r) (absoluteCeiling s o) ≤ j
+      → f (writeCeiling s o) (absoluteCeiling s o) ≡ f (moreUrgent (writeCeiling s o) r) (absoluteCeiling s o))
+      (λ h. omega arith) (λ h. refl) m
+
+  old-key-above : (j : ℕ) → lowestKey s j ≤ oldLowestKey s j
+  old-key-above j =
+      le-key (oldWeight s) s j (lowestKey s j) (key-top (weight s) s j)
+      (λ m r o l. omega (arith, key-below (weight s) s j m r o l, old-above m r o))
+
+  -- what is stopped by less urgent jobs alone is stopped by the same lock
+  old-key-same : (j : ℕ) → j ≤ limit → s .objects ≤ 128 → ((m r o : ℕ) → OthersLock s j m r o → weight s m r o ≤ j → j < r)
+      → keyWeight (lowestKey s j) ≤ j → oldLowestKey s j ≡ lowestKey s j
+  old-key-same j small objects less stopped = go (key-at (weight s) s j)
+    where
+      go : (lowestKey s j ≡ noKey) ⊎ KeyOfOther (weight s) s j (lowestKey s j) → oldLowestKey s j ≡ lowestKey s j
+      go (inl e) = absurd (omega arith)
+      go (inr w) =
+          let m = w .mode in
+          let r = w .holder in
+          let o = w .object in
+          let light : weight s m r o ≤ j = omega (arith, w .is, w .lock .rank, w .lock .object) in
+          let same = old-same j m r o (less m r o (w .lock) light) light in
+          omega (arith, key-below (oldWeight s) s j m r o (w .lock), old-key-above j, w .is)
+
+-- ---- the job that the only processor runs
+
+module _ (s : State) (K : Kept s) (one : s .processors ≡ 1) where
+  abbrev F : Facts s
+  F = K .facts
+
+  -- a waiting job names the most urgent holder
+  waiting-names-top : (x : ℕ) → requestOf s x ≢ 0 → TopHolder 256 (view s) (named s x)
+  waiting-names-top x d = named-top (K .invariant) (seen s F) x (waits-requested s F x d)
+
+  inherits-low : (y : ℕ) → R.inheritedRank s y ≤ y
+  unfolding R.inheritedRank
+  inherits-low y = least-top (s .jobs) y (inheritedFrom s y)
+
+  -- a job less urgent than some holder inherits nothing
+  inherits-own : (j h p : ℕ) → 1 ≤ j → lockWeight s h p < 256 → h < j → j ≤ R.inheritedRank s j
+  unfolding R.inheritedRank namedKey
+  inherits-own j h p low held less = elim (least-at (s .jobs) j (inheritedFrom s j)) [
+    | inl e ↦ omega arith
+    | inr t ↦ go (t .0) (eqb (requestOf s (t .0)) 0) refl (passes s (t .0)) refl (t .3)
+  ]
+    where
+      inherited : ℕ
+      inherited = least (s .jobs) j (inheritedFrom s j)
+
+      -- who waits names another than j
+      another : (x : ℕ) → requestOf s x ≢ 0 → passes s x ≡ false → keyHolder (lowestKey s x) ≢ j
+      another x d f e =
+          let top = subst (TopHolder 256 (view s)) (names-lowest s F x d f ∙ e) (waiting-names-top x d) in
+          omega (arith, top .1 h p held)
+
+      go : (x : ℕ) → (q : Bool) → eqb (requestOf s x) 0 ≡ q → (f : Bool) → passes s x ≡ f
+          → inherited ≡ (if not q && eqb (keyHolder (if not q && not f then lowestKey s x else noKey)) j then x else j) → j ≤ inherited
+      go x true e f g z = omega arith
+      go x false e true g z = omega (arith, simp (ne-eqb 0 j (λ y. omega arith)) at z)
+      go x false e false g z = omega (arith, simp (ne-eqb (keyHolder (lowestKey s x)) j (another x (eqb-false (requestOf s x) 0 e) g)) at z)
+
+  -- the least key of the ready jobs
+  runKey : ℕ
+  runKey = least (s .jobs) noKey (readyKey s 0)
+
+  ready-key : (y : ℕ) → 1 ≤ y → y ≤ s .jobs → isActive s y ≡ true → requestOf s y ≡ 0 → readyKey s 0 y ≡ R.inheritedRank s y * 256 + y
+  ready-key y a b active free =
+      let p : processorOf s y ≡ 0 = omega (arith, F .processors y a b) in
+      simp (eq-eqb (processorOf s y) 0 p, active, eq-eqb (requestOf s y) 0 free)
+
+  ready-below : (y : ℕ) → 1 ≤ y → y ≤ s .jobs → isActive s y ≡ true → requestOf s y ≡ 0 → runKey ≤ y * 256 + y
+  unfolding runKey
+  ready-below y a b active free =
+      omega (arith, least-le (s .jobs) noKey (readyKey s 0) y a b, ready-key y a b active free, inherits-low y)
+
+  -- whoever runs is the one of the least key
+  run-key : (j : ℕ) → 1 ≤ j → runningRank s 0 ≡ j → (runKey ≡ noKey) ⊎ (runKey ≡ R.inheritedRank s j * 256 + j)
+  unfolding runKey runningRank
+  run-key j low e = elim (least-at (s .jobs) noKey (readyKey s 0)) [
+    | inl z ↦ inl z
+    | inr t ↦ go (t .0) (t .2) (isReady s 0 (t .0)) (t .3)
+  ]
+    where
+      go : (x : ℕ) → x ≤ s .jobs → (b : Bool) → runKey ≡ (if b then R.inheritedRank s x * 256 + x else noKey)
+          → (runKey ≡ noKey) ⊎ (runKey ≡ R.inheritedRank s j * 256 + j)
+      go x l true z =
+          let same : x ≡ j = omega (arith, F .counts .jobs) in
+          inr (subst (λ y. runKey ≡ R.inheritedRank s y * 256 + y) same z)
+      go x l false z = inl z
+
+  -- the job that runs is more urgent than each other holder
+  runs-above : (j h p : ℕ) → 1 ≤ j → j ≤ s .jobs → runningRank s 0 ≡ j → h ≢ j → lockWeight s h p < 256 → j < h
+  runs-above j h p low high run d held = elim (decLt j h) [
+    | yes z ↦ z
+    | no z ↦ absurd (elim (ℕ-discrete (requestOf s h) 0) [ yes free ↦ ready h p held (omega arith) free | no w ↦ waiting (omega arith) w ])
+  ]
+    where
+      -- a holder more urgent than j that doesn't wait runs before it
+      ready : (y q : ℕ) → lockWeight s y q < 256 → y < j → requestOf s y ≡ 0 → ⊥
+      ready y q held less free =
+          let H = lock-held s y q held in
+          let rank = held-rank s F (H .mode) y q (H .held) in
+          let active = as-number-true (isActive s y) (K .invariant .holder y q held) in
+          let below = ready-below y (rank .0) (rank .1) active free in
+          let own = inherits-own j y q low held less in
+          elim (run-key j low run) [ inl e ↦ omega (arith, F .counts .jobs) | inr e ↦ omega arith ]
+
+      -- one that waits names the most urgent holder, which doesn't
+      waiting : h < j → requestOf s h ≢ 0 → ⊥
+      waiting less w =
+          let top = waiting-names-top h w in
+          ready (named s h) (top .0 .0) (top .0 .1) (omega (arith, top .1 h p held))
+          (no-request s F (named s h) (top-not-waiting (K .invariant) (seen s F) (named s h) top))
+
+  -- ---- one request
+
+  -- it passes by both rules, or meets the same lock
+  pub same-key : (j : ℕ) → 1 ≤ j → j ≤ s .jobs → runningRank s 0 ≡ j
+      → ((passes s j ≡ true) × (oldPasses s j ≡ true)) ⊎ (oldLowestKey s j ≡ lowestKey s j)
+  same-key j low high run = elim (decLt j (keyWeight (lowestKey s j))) [
+    | yes l ↦ inl (lt-ltb j (keyWeight (lowestKey s j)) l, lt-ltb j (keyWeight (oldLowestKey s j)) (omega (arith, old-key-above s j)))
+    | no n ↦ inr (old-key-same s j (omega (arith, F .counts .jobs)) (F .counts .objects .1)
+        (λ m r o l w. runs-above j r o low high run (l .other) (omega (arith, lock-below s m r o (l .mode) (l .held), weight-small s m r o))) (omega arith))
+  ]
+
+  pub running-is : rankValue (running s 0) ≡ runningRank s 0
+  unfolding running processorRefusal
+  running-is = simp (facts-well-formed s F, lt-ltb 0 (s .processors) (omega arith))
+
+-- ---- the event
+
+request-same : (s : State) (m j o : ℕ) → ((passes s j ≡ true) × (oldPasses s j ≡ true)) ⊎ (oldLowestKey s j ≡ lowestKey s j)
+    → request s m j o ≡ oldRequest s m j o
+unfolding requestMeeting
+request-same s m j o (inl p) = simp (p .0, p .1)
+request-same s m j o (inr e) = ap (requestMeeting s m j o) (sym e)
+
+-- an accepted request is a request of the rule
+accepted-request : (s : State) (k r o : ℕ) → isRequest k ≡ true → accepted s k r o ≡ request s (modeOf k) r o
+unfolding accepted
+accepted-request s k r o e = let two = between-true 2 3 k e in simp (ne-eqb k 1 (λ q. omega arith), e)
+
+refused-number : (s : State) (k r o n : ℕ) → refusal s k r o ≡ suc n → paper (step s k r o .answer) .number ≡ 4
+unfolding step
+refused-number s k r o n e = simp (e, ne-eqb (suc n) 0 (λ q. omega arith))
+
+not-refused-step : (s : State) (k r o : ℕ) → refusal s k r o ≡ 0 → step s k r o ≡ accepted s k r o
+unfolding step
+not-refused-step s k r o e = simp e
+
+pub one-request : (s : State) → Kept s → s .processors ≡ 1 → (k j o : ℕ) → isRequest k ≡ true → rankValue (running s 0) ≡ j
+    → paper (step s k j o .answer) .number ≢ 4 → step s k j o ≡ oldRequest s (modeOf k) j o
+one-request s K one k j o kind run ok = go (refusal s k j o) refl
+  where
+    go : (n : ℕ) → refusal s k j o ≡ n → step s k j o ≡ oldRequest s (modeOf k) j o
+    go zero e =
+        let rank = not-refused s k j o e .rank in
+        not-refused-step s k j o e ∙ accepted-request s k j o kind
+        ∙ request-same s (modeOf k) j o (same-key s K one j (rank .0) (rank .1) (sym (running-is s K one) ∙ run))
+    go (suc n) e = absurd (ok (refused-number s k j o n e))

@@ -1,0 +1,81 @@
+-- The promises about the manager as a whole: demand 3, well-formed states, no second wake-up, and the old rule on one processor.
+-- Their terms are in Terms.antt and, for demand 3, in theory/specs/Words.antt; the files between Terms.antt and this one prove them.
+-- The sentences in quotes are document 01's. Assumes nothing.
+use mathlib.Core.Path.{_≡_, ap}
+use mathlib.Core.Logic.{_≢_}
+use mathlib.Core.Bool.{true, false}
+use mathlib.Core.List.{List, [], _∷_}
+use Prim.Native.Nat.{ℕ, zero, suc}
+use Rattle.state.specs.declared.State.{State}
+use Rattle.state.specs.State.{isWaiting}
+use Rattle.state.specs.WellFormed.{wellFormed}
+use Rattle.state.specs.Facts.{Sized}
+use Rattle.state.specs.WellFormedFacts.{facts, facts-well-formed}
+use Rattle.table.specs.Reading.{readTable}
+use Rattle.table.specs.Fresh.{Fresh, read-fresh}
+use Rattle.rule.specs.Granting.{passes, wakeable}
+use Rattle.manager.specs.Answers.{paper, rankValue}
+use Rattle.manager.specs.Refusals.{isRequest, modeOf}
+use Rattle.manager.specs.Questions.{running}
+use Rattle.theory.specs.Words.{Demand3}
+use Rattle.theory.specs.Lists.{stateAt, labelAt, demand3-of}
+use Rattle.promises.specs.Terms.{Event, outcomeOf, next, label, named, Reached, fresh, after, oldRequest}
+use Rattle.promises.specs.TableStates.{read-sized}
+use Rattle.promises.specs.View.{view}
+use Rattle.promises.specs.Steps.{step-goes}
+use Rattle.promises.specs.ReachedStates.{kept, fresh-facts, fresh-view, manages}
+use Rattle.promises.specs.Waking.{blocked-not-woken, nobody-left}
+use Rattle.promises.specs.OldRule.{one-request}
+
+-- ---- DEMAND 3
+-- "It is a single claim about the whole list of events and not one for each event. The list starts from a fresh state .. An event in it is
+-- any three bytes, of any kind or none, and gets the state that the event before it returned, refused or not."
+-- `labelAt .. i` is what is read off event i and its answer, `stateAt .. t` the state after the first t events.
+pub demand3 : (s : State) → Sized s → Fresh s → (es : List Event)
+    → Demand3 (labelAt next label s es) (λ t j. named (stateAt next label s es t) j)
+demand3 s z f es = demand3-of next label view manages s (fresh-facts z f) (fresh-view z f) es
+
+-- "a fresh state .., as the reader returns for each table it accepts"
+pub table-demand3 : (b : List ℕ) → readTable b .refusal ≡ 0 → (es : List Event)
+    → Demand3 (labelAt next label (readTable b .state) es) (λ t j. named (stateAt next label (readTable b .state) es t) j)
+table-demand3 b ok = demand3 (readTable b .state) (read-sized b ok) (read-fresh b ok)
+
+-- ---- THE STATES THAT ARE REACHED
+-- The other promises speak of them: those that the reader returns, and those after the events of any list from one that is reached.
+pub table-reached : (b : List ℕ) → readTable b .refusal ≡ 0 → Reached (readTable b .state)
+table-reached b ok = fresh (read-sized b ok) (read-fresh b ok)
+
+pub list-reached : (s : State) → Reached s → (es : List Event) (t : ℕ) → Reached (stateAt next label s es t)
+list-reached s r es zero = r
+list-reached s r [] (suc t) = r
+list-reached s r (e ∷ es) (suc t) = list-reached (next s e) (after r e) es t
+
+-- ---- WELL-FORMED STATES
+-- An event in any well-formed state, however it was come by, returns a well-formed state, so that "8 the state handed in isn't well formed"
+-- is never the manager's own doing.
+pub keeps-well-formed : (s : State) → Sized s → wellFormed s ≡ true → (e : Event) → Sized (next s e) × (wellFormed (next s e) ≡ true)
+keeps-well-formed s z w e =
+    let F = step-goes s (facts s z w) (e .kind) (e .rank) (e .object) .0 in
+    (F .sized, facts-well-formed (next s e) F)
+
+pub reached-well-formed : {t : State} → Reached t → wellFormed t ≡ true
+reached-well-formed {t} r = facts-well-formed t (kept r .facts)
+
+-- ---- NO SECOND WAKE-UP
+-- "the search stops with the first whose request passes. It gets its lock. No second one could."
+-- In every state that is reached, so also once a woken job has its lock, no waiting job's request passes;
+pub no-waiting-request-passes : {t : State} → Reached t → (j : ℕ) → isWaiting t j ≡ true → passes t j ≡ false
+no-waiting-request-passes {t} r j w = blocked-not-woken t (kept r .facts) (kept r .invariant .blocked) j w
+
+-- and the search, made again after any event, finds nobody.
+pub no-second-one : {s : State} → Reached s → (e : Event) → wakeable (next s e) ≡ 0
+no-second-one {s} r e = nobody-left (next s e) (no-waiting-request-passes (after r e))
+
+-- ---- ONE PROCESSOR
+-- "Equality with it is claimed for one state, reached from a fresh one by any events, and one request of the job that
+-- the only processor runs: the same grant or wait, the same named lock." A request is of kind 2 or 3, and not refused, the fourth answer.
+pub one-processor : {t : State} → Reached t → t .processors ≡ 1
+    → (e : Event) → isRequest (e .kind) ≡ true → rankValue (running t 0) ≡ e .rank → paper (outcomeOf t e .answer) .number ≢ 4
+    → paper (outcomeOf t e .answer) ≡ paper (oldRequest t (modeOf (e .kind)) (e .rank) (e .object) .answer)
+one-processor {t} r one e kind run ok =
+    ap (λ x. paper (x .answer)) (one-request t (kept r) one (e .kind) (e .rank) (e .object) kind run ok)

@@ -1,0 +1,53 @@
+-- What holds in every state that is reached from a fresh one: the facts of a well-formed state, and the invariant of the theory.
+-- Assumes nothing.
+use mathlib.Core.Path.{ap, _∙_}
+use Rattle.ranks.specs.Ranks.{member}
+use Rattle.ranks.specs.RankLaws.{member-empty}
+use Rattle.state.specs.declared.State.{State}
+use Rattle.state.specs.State.{objectIn}
+use Rattle.state.specs.Facts.{Sized, Facts}
+use Rattle.state.specs.WellFormedFacts.{facts}
+use Rattle.table.specs.Fresh.{Fresh}
+use Rattle.theory.specs.Machine as M
+use Rattle.theory.specs.Machine.{Invariant, fresh-invariant}
+use Rattle.theory.specs.Keeps.{step-invariant}
+use Rattle.theory.specs.Lists.{Manages}
+use Rattle.promises.specs.Terms.{next, label, Reached, fresh, after}
+use Rattle.promises.specs.View.{asNumber, view, seen}
+use Rattle.promises.specs.Frames.{no-weight}
+use Rattle.promises.specs.Steps.{step-goes}
+
+-- ---- a fresh state
+
+module _ {s : State} (z : Sized s) (f : Fresh s) where
+  pub fresh-facts : Facts s
+  fresh-facts = facts s z (f .well-formed)
+
+  -- as the theory sees it
+  pub fresh-view : M.Fresh 256 (view s)
+  fresh-view = record {
+    no-lock = λ r o. no-weight s r o (λ m. ap (λ v. member v r) (f .none-held m o) ∙ member-empty r);
+    no-request = λ j. ap objectIn (f .none-waiting j);
+    idle = λ j. ap asNumber (ap (λ v. member v j) (f .none-active) ∙ member-empty j);
+  }
+
+-- ---- every state
+
+pub record Kept (t : State) : Type 0 where
+  pub facts : Facts t
+  pub invariant : Invariant 256 (view t)
+
+pub kept : {t : State} → Reached t → Kept t
+kept (fresh z f) = record { facts = fresh-facts z f; invariant = fresh-invariant (fresh-view z f) }
+kept (after {s} r e) =
+    let k = kept r in
+    let g = step-goes s (k .facts) (e .kind) (e .rank) (e .object) in
+    record { facts = g .0; invariant = step-invariant (g .1) (k .invariant) }
+
+-- what the theory asks of the manager
+pub manages : Manages next label view 256 129 Facts
+manages = record {
+  keeps = λ s e F. step-goes s F (e .kind) (e .rank) (e .object) .0;
+  steps = λ s e F. step-goes s F (e .kind) (e .rank) (e .object) .1;
+  seen = seen;
+}

@@ -1,0 +1,49 @@
+-- The states that the table reader returns for accepted bytes have arrays of their lengths.
+-- That these states are fresh is shown in table/specs/Fresh.antt.
+-- Assumes nothing.
+use mathlib.Core.Path.{_≡_, sym, subst, _∙_}
+use mathlib.Core.List.{List}
+use Prim.Native.Nat.{ℕ, _-_}
+use native.Mathlib.Omega.{arith}
+use lib.ListN.{length, take, drop, length-append, length-take, length-drop, length-replicate}
+use Rattle.ranks.specs.Ranks.{limit}
+use Rattle.state.specs.State.{read, write, mostObjects, zeros}
+use Rattle.state.specs.Facts.{Sized}
+use Rattle.table.specs.declared.TableRead.{TableRead}
+use Rattle.table.specs.Bytes.{jobsIn, entryCount}
+use Rattle.table.specs.Refusals.{tableRefusal}
+use Rattle.table.specs.Reading.{processorsOf, tableState, readTable}
+use Rattle.table.specs.Accepted.{Accepted, accepted}
+use Rattle.table.specs.Declarations.{declared-fits}
+use Rattle.table.specs.Fresh.{read-refusal, read-accepted}
+
+module _ (b : List ℕ) (a : Accepted b) where
+  processors-long : length (processorsOf b) ≡ limit
+  unfolding processorsOf
+  processors-long =
+      let own = take (jobsIn b) (drop 8 b) in
+      omega (
+        arith,
+        length-append own (zeros (limit - jobsIn b)),
+        length-take (jobsIn b) (drop 8 b),
+        length-drop 8 b,
+        length-replicate {A = ℕ} (limit - jobsIn b) 0,
+        a .start-within,
+        a .jobs-high,
+      )
+
+  table-sized : Sized (tableState b)
+  unfolding tableState
+  table-sized = record {
+    processor-of = processors-long;
+    may-read = declared-fits b a read (entryCount b) (omega arith) .long;
+    may-write = declared-fits b a write (entryCount b) (omega arith) .long;
+    readers = length-replicate {A = ℕ} mostObjects 0;
+    writers = length-replicate {A = ℕ} mostObjects 0;
+    request = length-replicate {A = ℕ} limit 0;
+  }
+
+pub read-sized : (b : List ℕ) → readTable b .refusal ≡ 0 → Sized (readTable b .state)
+read-sized b e =
+    let ok : tableRefusal b ≡ 0 = sym (read-refusal b) ∙ e in
+    subst (λ (r : TableRead). Sized (r .state)) (sym (read-accepted b ok)) (table-sized b (accepted b ok))

@@ -1,0 +1,80 @@
+-- The terms of the promises: events, what demand 3 reads off an event and its answer, whom a job names, the states that are reached,
+-- and a request by the old rule. The sentences in quotes are document 01's.
+-- Assumes nothing.
+use mathlib.Core.Bool.{Bool}
+use Prim.Native.Nat.{ℕ}
+use lib.Dec.{eqb}
+use lib.ListN.{getD}
+use Rattle.basics.specs.Choice.{if_then_else_}
+use Rattle.state.specs.declared.State.{State}
+use Rattle.state.specs.Facts.{Sized}
+use Rattle.table.specs.Fresh.{Fresh}
+use Rattle.rule.specs.Keys.{oldLowestKey}
+use Rattle.manager.specs.declared.Outcome.{Outcome}
+use Rattle.manager.specs.Answers.{Paper, paper, namedRank}
+use Rattle.manager.specs.Refusals.{isRequest, modeOf}
+use Rattle.manager.specs.Events.{requestMeeting, step}
+use Rattle.manager.specs.Questions.{namedLock}
+use Rattle.theory.specs.Words.{Label}
+use Rattle.theory.specs.Build.{labelled}
+
+-- "An event is three bytes: kind, rank, object." Here they are any three numbers.
+pub record Event : Type 0 where
+  pub kind : ℕ
+  pub rank : ℕ
+  pub object : ℕ
+
+abbrev pub outcomeOf : State → Event → Outcome
+outcomeOf s e = step s (e .kind) (e .rank) (e .object)
+
+-- "gets the state that the event before it returned, refused or not": the state that an event returns
+abbrev pub next : State → Event → State
+next s e = outcomeOf s e .state
+
+-- ---- "Its words are read off the events and the answers"
+
+abbrev pub isGranted : Paper → Bool
+isGranted p = eqb (p .number) 1
+
+abbrev pub isWaits : Paper → Bool
+isWaits p = eqb (p .number) 2
+
+abbrev pub isDone : Paper → Bool
+isDone p = eqb (p .number) 3
+
+-- what happened, as the labels of demand 3 number it: 2 granted, 3 waits; done, the kind 1, 4, 5 or 6 itself; 0 anything else
+abbrev pub happened : ℕ → Paper → ℕ
+happened k p =
+    if isGranted p then 2 else
+    if isWaits p then 3 else
+    if isDone p then (if isRequest k then 0 else k) else
+    0
+
+-- "A request is an event answered granted or waits": its mode, 1 read or 2 write; 0 where there is none
+abbrev pub modeAsked : ℕ → Paper → ℕ
+modeAsked k p = if isGranted p then modeOf k else if isWaits p then modeOf k else 0
+
+-- "done, with the woken rank or 0"
+abbrev pub wokenIn : Paper → ℕ
+wokenIn p = if isDone p then getD (p .values) 0 0 else 0
+
+-- what demand 3 reads off an event of kind k, rank r and object o, and its answer
+abbrev pub labelOf : ℕ → ℕ → ℕ → Paper → Label
+labelOf k r o p = labelled (happened k p) r o (modeAsked k p) (wokenIn p)
+
+abbrev pub label : State → Event → Label
+label s e = labelOf (e .kind) (e .rank) (e .object) (paper (outcomeOf s e .answer))
+
+-- "After an event, a job in a run names the rank that the question for its named lock then gives; 0 is nobody."
+abbrev pub named : State → ℕ → ℕ
+named s j = namedRank (namedLock s j)
+
+-- ---- the states that are reached: "a fresh state: a well-formed one with every job idle and every object unlocked",
+-- its arrays of the lengths that the code's record always has; and each state that an event of any kind or none returns in a reached one
+pub data Reached : State → Type 0 where
+  fresh : {s : State} → Sized s → Fresh s → Reached s
+  after : {s : State} → Reached s → (e : Event) → Reached (next s e)
+
+-- ---- a request of r for object o in mode m by the old rule: "The old rule is the same with a read lock weighing the write ceiling alone."
+abbrev pub oldRequest : State → ℕ → ℕ → ℕ → Outcome
+oldRequest s m r o = requestMeeting s m r o (oldLowestKey s r)

@@ -1,0 +1,1 @@
+// Promises about the manager as a whole: theorems only, no functions.

@@ -1,0 +1,75 @@
+-- The lowest key of the locks that a set of ranks holds on an object is that of the first rank of the set, since a key grows with the rank.
+-- Assumes nothing.
+use mathlib.Core.Path.{_≡_, refl, sym, ap, ap₂, _∙_}
+use mathlib.Core.Bool.{Bool, true, false, _&&_}
+use Prim.Native.Nat.{ℕ, _^_, _≤_, _<_, min}
+use native.Mathlib.Nat.{le-antisymm, le-refl}
+use native.Mathlib.Omega.{arith}
+use lib.Dec.{eqb}
+use borrow.Author.Tests.{eqb-true, eq-eqb}
+use Rattle.basics.specs.Choice.{if_then_else_, and-left, and-right}
+use Rattle.basics.specs.Loops.{least, least-top, least-le, le-least}
+use Rattle.ranks.specs.Ranks.{limit, member, without, first, union}
+use Rattle.ranks.specs.RankLaws.{first-least, first-member, first-pos, first-le, first-some, member-empty, without-empty}
+use Rattle.ranks.specs.UnionLaws.{empty-union}
+use Rattle.rule.specs.Weights.{ceilingOf, moreUrgent}
+use Rattle.rule.specs.Keys.{lockKey, noKey}
+use Rattle.rule.specs.ObjectKeys.{readerKey, writerKey, objectKeyOf}
+
+module _ (k top set : ℕ) (f : ℕ → ℕ) where
+  over : ℕ → ℕ
+  over r = if member set r then f r else top
+
+  -- over a set with no member there is only `top`
+  least-empty : ((r : ℕ) → member set r ≡ false) → least k top (λ r. if member set r then f r else top) ≡ top
+  unfolding over
+  least-empty none = le-antisymm (least-top k top over) (le-least k top over top (le-refl top) (λ r p h. rw (none r) (le-refl top)))
+
+  -- where f grows, the least over a set's members is at the first
+  least-first : ((q r : ℕ) → q ≤ r → f q ≤ f r) → ((r : ℕ) → r ≤ k → f r ≤ top) → first k set ≤ k
+      → least k top (λ r. if member set r then f r else top) ≡ f (first k set)
+  unfolding over
+  least-first grows below l =
+      le-antisymm
+      (rw (first-member k set l) at (least-le k top over (first k set) (first-pos k set) l))
+      (le-least k top over (f (first k set)) (below (first k set) l) (λ r p h. from r (member set r) refl))
+    where
+      from : (r : ℕ) (b : Bool) → member set r ≡ b → f (first k set) ≤ (if b then f r else top)
+      from r true m = grows (first k set) r (first-least k set r m)
+      from r false m = below (first k set) l
+
+module _ (o : ℕ) (h : o < 256) where
+  pub reader-key-first : (readers mayWrite : ℕ) → 0 < readers → readers < 2 ^ limit
+      → readerKey readers mayWrite o ≡ lockKey (moreUrgent (ceilingOf mayWrite) (first limit readers)) (first limit readers) o
+  unfolding readerKey
+  reader-key-first readers mayWrite p b =
+      least-first limit noKey readers (λ r. lockKey (moreUrgent (ceilingOf mayWrite) r) r o)
+      (λ q r l. omega arith) (λ r l. omega arith) (first-some limit readers p b)
+
+  pub writer-key-first : (writers mayRead mayWrite : ℕ) → 0 < writers → writers < 2 ^ limit
+      → writerKey writers mayRead mayWrite o ≡ lockKey (ceilingOf (union mayRead mayWrite)) (first limit writers) o
+  unfolding writerKey
+  writer-key-first writers mayRead mayWrite p b =
+      least-first limit noKey writers (λ r. lockKey (ceilingOf (union mayRead mayWrite)) r o)
+      (λ q r l. omega arith) (λ r l. omega (arith, first-le limit (union mayRead mayWrite))) (first-some limit writers p b)
+
+-- no lock, no key
+pub reader-key-none : (readers mayWrite o : ℕ) → readers ≡ 0 → readerKey readers mayWrite o ≡ noKey
+unfolding readerKey
+reader-key-none readers mayWrite o e =
+    least-empty limit noKey readers (λ r. lockKey (moreUrgent (ceilingOf mayWrite) r) r o) (λ r. ap (λ (set : ℕ). member set r) e ∙ member-empty r)
+
+pub writer-key-none : (writers mayRead mayWrite o : ℕ) → writers ≡ 0 → writerKey writers mayRead mayWrite o ≡ noKey
+unfolding writerKey
+writer-key-none writers mayRead mayWrite o e =
+    least-empty limit noKey writers (λ r. lockKey (ceilingOf (union mayRead mayWrite)) r o) (λ r. ap (λ (set : ℕ). member set r) e ∙ member-empty r)
+
+pub object-key-none : (readers writers mayRead mayWrite o j : ℕ) → union readers writers ≡ 0 → objectKeyOf readers writers mayRead mayWrite o j ≡ noKey
+unfolding objectKeyOf
+object-key-none readers writers mayRead mayWrite o j e =
+    let both : eqb readers 0 && eqb writers 0 ≡ true = sym (empty-union readers writers) ∙ eq-eqb (union readers writers) 0 e in
+    let no-reader : readers ≡ 0 = eqb-true readers 0 (and-left (eqb readers 0) (eqb writers 0) both) in
+    let no-writer : writers ≡ 0 = eqb-true writers 0 (and-right (eqb readers 0) (eqb writers 0) both) in
+    ap₂ min
+    (reader-key-none (without readers j) mayWrite o (ap (λ (set : ℕ). without set j) no-reader ∙ without-empty j))
+    (writer-key-none (without writers j) mayRead mayWrite o (ap (λ (set : ℕ). without set j) no-writer ∙ without-empty j))

@@ -1,0 +1,3 @@
+mod Firsts
+mod Steps
+mod Searching

@@ -1,0 +1,102 @@
+-- The steps of the wake search: a rank that does not wait or that a lock stops is passed, and the first of which neither is so is woken.
+-- Assumes nothing.
+use mathlib.Core.Path.{_≡_, refl, sym, ap, _∙_}
+use mathlib.Core.Logic.{_≢_}
+use mathlib.Core.Bool.{Bool, true, false, not, _&&_, _||_}
+use mathlib.Core.List.{List}
+use Prim.Native.Nat.{ℕ, suc, _+_, _*_, _/_, _≤_, _<_}
+use native.Mathlib.Numerals.{add-one}
+use native.Mathlib.Omega.{arith}
+use lib.Dec.{eqb, ltb}
+use lib.ListN.{getD}
+use borrow.Author.Tests.{ne-eqb, eq-eqb, lt-ltb, le-ltb, ltb-false}
+use Rattle.basics.specs.Choice.{if_then_else_, _orElse_}
+use Rattle.basics.specs.Loops.{least, least-le, firstNonzero, first-nonzero-more, first-nonzero-keeps}
+use Rattle.ranks.specs.Ranks.{member}
+use Rattle.state.specs.State.{write, isWaiting}
+use Rattle.rule.specs.Weights.{ceilingOf}
+use Rattle.rule.specs.Keys.{noKey, lowestKey}
+use Rattle.rule.specs.Granting.{passesBelow, passes, wakes, namedKeyOf, reasonOf}
+use Rattle.rule.specs.Parts.{keyAt, waitsState}
+use Rattle.rule.proofs.Steps.{at-next, waits-key}
+
+-- ---- the named key
+
+pub named-none : (request key j : ℕ) → request ≡ 0 → noKey ≡ namedKeyOf request key j
+named-none request key j e = simp (eq-eqb request 0 e)
+
+pub named-passes : (request key j : ℕ) → request ≢ 0 → passesBelow j key ≡ true → noKey ≡ namedKeyOf request key j
+named-passes request key j w e = simp (ne-eqb request 0 w, e)
+
+pub named-stopped : (request key j : ℕ) → request ≢ 0 → passesBelow j key ≡ false → key ≡ namedKeyOf request key j
+named-stopped request key j w e = simp (ne-eqb request 0 w, e)
+
+-- ---- the reason
+
+module _ (m o h p writers mayWrite : ℕ) where
+  abbrev conflicts : Bool
+  conflicts = eqb p o && (eqb m write || member writers h)
+
+  abbrev caps : Bool
+  caps = not (member writers h) && ltb h (ceilingOf mayWrite)
+
+  pub conflict : conflicts ≡ true → 1 ≡ reasonOf m o h p writers mayWrite
+  conflict e = simp e
+
+  pub cap : conflicts ≡ false → caps ≡ true → 3 ≡ reasonOf m o h p writers mayWrite
+  cap e d = simp (e, d)
+
+  pub else-ceiling : conflicts ≡ false → caps ≡ false → 2 ≡ reasonOf m o h p writers mayWrite
+  else-ceiling e d = simp (e, d)
+
+-- ---- the search
+
+module _ (jobs objects : ℕ) (mayRead mayWrite readers writers request : List ℕ) where
+  abbrev woken : ℕ → ℕ
+  woken = wakes (waitsState jobs objects mayRead mayWrite readers writers request)
+
+  idle : (n : ℕ) → getD request n 0 ≡ 0 → woken (n + 1) ≡ 0
+  idle n e = simp (at-next, e)
+
+  stopped : (j o : ℕ) → 1 ≤ o → o ≤ objects → passesBelow j (keyAt mayRead mayWrite readers writers j o) ≡ false → woken j ≡ 0
+  stopped j o p h b =
+      let key = keyAt mayRead mayWrite readers writers j in
+      let s = waitsState jobs objects mayRead mayWrite readers writers request in
+      let no : passes s j ≡ false =
+      le-ltb j (lowestKey s j / 65536)
+      (omega (arith, ltb-false j (key o / 65536) b, least-le objects noKey key o p h, waits-key jobs objects mayRead mayWrite readers writers request j))
+      in
+      go (isWaiting s j) (passes s j) no
+    where
+      go : (a b : Bool) → b ≡ false → (if a && b then j else 0) ≡ 0
+      go true b e = simp e
+      go false b e = refl
+
+  let-by : (n : ℕ) → getD request n 0 ≢ 0 → (n + 1 + 1) * 65536 ≤ least objects noKey (keyAt mayRead mayWrite readers writers (n + 1))
+      → woken (n + 1) ≡ n + 1
+  let-by n w l =
+      let s = waitsState jobs objects mayRead mayWrite readers writers request in
+      let pass : passes s (n + 1) ≡ true =
+      lt-ltb (n + 1) (lowestKey s (n + 1) / 65536) (omega (arith, waits-key jobs objects mayRead mayWrite readers writers request (n + 1)))
+      in
+      let waits : isWaiting s (n + 1) ≡ true = ap (λ (q : ℕ). not (eqb q 0)) (at-next request n) ∙ ap not (ne-eqb (getD request n 0) 0 w) in
+      simp (waits, pass)
+
+  module _ (n : ℕ) (passed : firstNonzero n woken ≡ 0) where
+    none-more : woken (n + 1) ≡ 0 → firstNonzero (n + 1) woken ≡ 0
+    none-more e = first-nonzero-more n woken ∙ simp (passed, e)
+
+    pub pass-idle : getD request n 0 ≡ 0 → firstNonzero (n + 1) woken ≡ 0
+    pass-idle e = none-more (idle n e)
+
+    pub pass-stopped : (o : ℕ) → 1 ≤ o → o ≤ objects → passesBelow (n + 1) (keyAt mayRead mayWrite readers writers (n + 1) o) ≡ false
+        → firstNonzero (n + 1) woken ≡ 0
+    pass-stopped o p h b = none-more (stopped (n + 1) o p h b)
+
+    pub found : n < jobs → getD request n 0 ≢ 0 → (n + 1 + 1) * 65536 ≤ least objects noKey (keyAt mayRead mayWrite readers writers (n + 1))
+        → n + 1 ≡ firstNonzero jobs woken
+    found h w l =
+        let here : firstNonzero (n + 1) woken ≡ suc n =
+        first-nonzero-more n woken ∙ ap (λ (a : ℕ). a orElse woken (n + 1)) passed ∙ let-by n w l ∙ add-one n
+        in
+        sym (first-nonzero-keeps (n + 1) jobs woken n here (omega arith) ∙ sym (add-one n))

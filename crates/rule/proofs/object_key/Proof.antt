@@ -1,0 +1,44 @@
+-- `rule::object_key` meets its contract: with no holder there is no key, and else it is the definition.
+-- Assumes nothing.
+use mathlib.Core.Path.{sym}
+use Rattle.rule.specs.ObjectKeys.{objectKeyOf}
+use Rattle.rule.proofs.Firsts.{object-key-none}
+use borrow.Author.Needs.{needs}
+use Rattle.rule.proofs.object_key.Statement.{statement}
+use Rattle.rule.proofs.object_key.Tie as tie
+
+returns : tie.Need-returns
+returns c =
+    let a = c .before .args in
+    sym (object-key-none (a .readers) (a .writers) (a .may-read) (a .may-write) (a .object) (a .rank) (c .if1 .taken))
+
+without-requires : tie.Need-without-requires
+without-requires c κs = search needs
+
+reader-key-requires : tie.Need-reader-key-requires
+reader-key-requires c κs = search needs
+
+without-requires-2 : tie.Need-without-requires-2
+without-requires-2 c κs = search needs
+
+writer-key-requires : tie.Need-writer-key-requires
+writer-key-requires c κs = search needs
+
+lower-requires : tie.Need-lower-requires
+lower-requires c κs = search needs
+
+returns-2 : tie.Need-returns-2
+unfolding objectKeyOf
+returns-2 c = cc
+
+pub object-key-spec : {M : Type 1} → statement M
+object-key-spec =
+    tie.close
+    (tie.spec
+    returns
+    without-requires
+    reader-key-requires
+    without-requires-2
+    writer-key-requires
+    lower-requires
+    returns-2)

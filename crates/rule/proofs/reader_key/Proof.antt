@@ -1,0 +1,47 @@
+-- `rule::reader_key` meets its contract: no reader, no key; else the first reader's key is the lowest, by `reader-key-first`.
+-- Assumes nothing.
+use mathlib.Core.Path.{sym}
+use Prim.Native.Nat.{_<_}
+use native.Mathlib.Omega.{arith}
+use Rattle.rule.proofs.Firsts.{reader-key-none, reader-key-first}
+use borrow.Author.Needs.{needs}
+use Rattle.rule.proofs.reader_key.Statement.{statement}
+use Rattle.rule.proofs.reader_key.Tie as tie
+
+returns : tie.Need-returns
+returns c =
+    let a = c .before .args in
+    sym (reader-key-none (a .readers) (a .may-write) (a .object) (c .if1 .taken))
+
+first-requires : tie.Need-first-requires
+first-requires c κs = search needs
+
+ceiling-requires : tie.Need-ceiling-requires
+ceiling-requires c κs = search needs
+
+cast-more-urgent : tie.Need-cast-more-urgent
+cast-more-urgent c = search needs
+
+more-urgent-requires : tie.Need-more-urgent-requires
+more-urgent-requires c κs = search needs
+
+lock-key-requires : tie.Need-lock-key-requires
+lock-key-requires c κs = search needs
+
+returns-2 : tie.Need-returns-2
+returns-2 c =
+    let a = c .before .before .before .before .before .args in
+    let some : 0 < a .readers = omega (arith, c .before .before .before .before .if1 .left) in
+    cc (reader-key-first (a .object) (omega arith) (a .readers) (a .may-write) some (omega arith))
+
+pub reader-key-spec : {M : Type 1} → statement M
+reader-key-spec =
+    tie.close
+    (tie.spec
+    returns
+    first-requires
+    ceiling-requires
+    cast-more-urgent
+    more-urgent-requires
+    lock-key-requires
+    returns-2)

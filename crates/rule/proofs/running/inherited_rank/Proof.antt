@@ -1,0 +1,25 @@
+-- `rule::running::inherited_rank` meets its contract: by whom each rank names, as `inherited-by` says.
+-- Assumes nothing.
+use mathlib.Core.Path.{_∙_}
+use denote.Ref.{now}
+use native.Mathlib.Omega.{arith}
+use Rattle.rule.specs.Inheriting.{inherited-by}
+use Rattle.rule.specs.Parts.{waitsState}
+use borrow.Author.Needs.{needs}
+use Rattle.rule.proofs.running.inherited_rank.Statement.{statement}
+use Rattle.rule.proofs.running.inherited_rank.Tie as tie
+
+named-holders-requires : tie.Need-named-holders-requires
+named-holders-requires c κs = search needs
+
+inherited-by-requires : tie.Need-inherited-by-requires
+inherited-by-requires c κs = search needs
+
+returns : tie.Need-returns
+returns c =
+    let a = c .before .before .before .args in
+    c .inherited-by .ensures
+    ∙ inherited-by (c .before .before .named-holders .result) (waitsState (a .jobs) (a .objects) (now (a .may-read)) (now (a .may-write)) (now (a .readers)) (now (a .writers)) (now (a .request))) (c .before .before .named-holders .ensures) (a .rank) (omega arith)
+
+pub inherited-rank-spec : {M : Type 1} → statement M
+inherited-rank-spec = tie.close (tie.spec named-holders-requires inherited-by-requires returns)

@@ -1,0 +1,86 @@
+-- `rule::running::named_holders` meets its contract. The loop's invariant: the element of each rank passed is the rank that it names. A turn stores one more, and
+-- the number of ranks left falls.
+-- Assumes nothing.
+use mathlib.Core.Path.{_≡_, sym, ap, _∙_}
+use Prim.Native.Nat.{ℕ, _≤_, _-_, _+_}
+use native.Mathlib.Omega.{arith}
+use lib.ListN.{length}
+use denote.Ref.{now}
+use Rattle.basics.specs.Arrays.{at}
+use Rattle.rule.specs.Keys.{keyHolder, lowestKey}
+use Rattle.rule.specs.Granting.{namedKeyOf, namedKey, namedHolder}
+use Rattle.rule.specs.Parts.{waitsState, locksState, named-key-parts}
+use Rattle.rule.proofs.Steps.{at-next, stored}
+use borrow.Author.Needs.{needs}
+use Rattle.rule.proofs.running.named_holders.Statement.{statement}
+use Rattle.rule.proofs.running.named_holders.Tie as tie
+
+abbrev Inv-loop : tie.InvT-loop
+Inv-loop jobs objects may-read may-write readers writers request named₀ rank₀ named rank =
+    (rank ≤ jobs) × (length named ≡ 64)
+    × ((j : ℕ) → 1 ≤ j → j ≤ rank → at named j ≡ namedHolder (waitsState jobs objects may-read may-write readers writers request) j)
+
+abbrev μ-loop : tie.MeasureT-loop
+μ-loop jobs objects may-read may-write readers writers request named₀ rank₀ named rank = jobs - rank
+
+loop-holds : tie.Need-loop-holds Inv-loop μ-loop
+loop-holds c = (search needs, search needs, λ j a b. absurd (omega arith))
+
+cast-i : tie.Need-cast-i Inv-loop μ-loop
+cast-i c = search needs
+
+add-rank : tie.Need-add-rank Inv-loop μ-loop
+add-rank c = search needs
+
+mul-named-key : tie.Need-mul-named-key Inv-loop μ-loop
+mul-named-key c = search needs
+
+element-copy-out-named-key : tie.Need-element-copy-out-named-key Inv-loop μ-loop
+element-copy-out-named-key c = search needs
+
+named-key-requires : tie.Need-named-key-requires Inv-loop μ-loop
+named-key-requires c κs = search needs
+
+key-holder-requires : tie.Need-key-holder-requires Inv-loop μ-loop
+key-holder-requires c κs = search needs
+
+array-write-named : tie.Need-array-write-named Inv-loop μ-loop
+array-write-named c = search needs
+
+loop-less : tie.Need-loop-less Inv-loop μ-loop
+loop-less c = search needs
+
+loop-again : tie.Need-loop-again Inv-loop μ-loop
+loop-again c =
+    let a = c .before .before .before .before .before .args in
+    let rank = c .before .before .before .before .loop .rank in
+    let s = waitsState (a .jobs) (a .objects) (now (a .may-read)) (now (a .may-write)) (now (a .readers)) (now (a .writers)) (now (a .request)) in
+    let key = lowestKey (locksState (a .objects) (now (a .may-read)) (now (a .may-write)) (now (a .readers)) (now (a .writers))) (rank + 1) in
+    let named : c .before .named-key .result ≡ namedKey s (rank + 1) =
+    c .before .named-key .ensures ∙ ap (λ (q : ℕ). namedKeyOf q key (rank + 1)) (sym (at-next (now (a .request)) rank)) ∙ sym (named-key-parts s (rank + 1))
+    in (
+      search needs,
+      search needs,
+      stored (c .before .before .before .before .loop .named) rank (c .key-holder .result) (namedHolder s) (omega (arith, c .before .before .before .before .loop .inv .1)) (c .key-holder .ensures ∙ ap keyHolder named) (c .before .before .before .before .loop .inv .2),
+    )
+
+returns : tie.Need-returns Inv-loop μ-loop
+returns c = λ j p h. c .before .loop .inv .2 j p (omega arith)
+
+pub named-holders-spec : {M : Type 1} → statement M
+named-holders-spec =
+    tie.close
+    (tie.spec
+    Inv-loop
+    μ-loop
+    loop-holds
+    cast-i
+    add-rank
+    mul-named-key
+    element-copy-out-named-key
+    named-key-requires
+    key-holder-requires
+    array-write-named
+    loop-less
+    loop-again
+    returns)

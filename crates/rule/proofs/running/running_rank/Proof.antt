@@ -1,0 +1,25 @@
+-- `rule::running::running_rank` meets its contract: by whom each rank names, as `running-by` says.
+-- Assumes nothing.
+use mathlib.Core.Path.{sym, _∙_}
+use denote.Ref.{now}
+use Rattle.rule.specs.Inheriting.{NamedBy, running-by}
+use Rattle.rule.specs.Parts.{runState, named-holder-parts}
+use borrow.Author.Needs.{needs}
+use Rattle.rule.proofs.running.running_rank.Statement.{statement}
+use Rattle.rule.proofs.running.running_rank.Tie as tie
+
+named-holders-requires : tie.Need-named-holders-requires
+named-holders-requires c κs = search needs
+
+running-by-requires : tie.Need-running-by-requires
+running-by-requires c κs = search needs
+
+returns : tie.Need-returns
+returns c =
+    let a = c .before .before .before .args in
+    let s = runState (a .jobs) (a .objects) (now (a .processor-of)) (a .active) (now (a .may-read)) (now (a .may-write)) (now (a .readers)) (now (a .writers)) (now (a .request)) in
+    let by : NamedBy (c .before .before .named-holders .result) s = (λ r p h. c .before .before .named-holders .ensures r p h ∙ sym (named-holder-parts s r)) in
+    c .running-by .ensures ∙ running-by (c .before .before .named-holders .result) s by (a .processor)
+
+pub running-rank-spec : {M : Type 1} → statement M
+running-rank-spec = tie.close (tie.spec named-holders-requires running-by-requires returns)

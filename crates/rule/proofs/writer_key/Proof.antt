@@ -1,0 +1,33 @@
+-- `rule::writer_key` meets its contract: no writer, no key; else the first writer's key is the lowest, by `writer-key-first`.
+-- Assumes nothing.
+use mathlib.Core.Path.{sym}
+use Prim.Native.Nat.{_<_}
+use native.Mathlib.Omega.{arith}
+use Rattle.rule.proofs.Firsts.{writer-key-none, writer-key-first}
+use borrow.Author.Needs.{needs}
+use Rattle.rule.proofs.writer_key.Statement.{statement}
+use Rattle.rule.proofs.writer_key.Tie as tie
+
+returns : tie.Need-returns
+returns c =
+    let a = c .before .args in
+    sym (writer-key-none (a .writers) (a .may-read) (a .may-write) (a .object) (c .if1 .taken))
+
+ceiling-requires : tie.Need-ceiling-requires
+ceiling-requires c κs = search needs
+
+first-requires : tie.Need-first-requires
+first-requires c κs = search needs
+
+lock-key-requires : tie.Need-lock-key-requires
+lock-key-requires c κs = search needs
+
+returns-2 : tie.Need-returns-2
+returns-2 c =
+    let a = c .before .before .before .before .args in
+    let some : 0 < a .writers = omega (arith, c .before .before .before .if1 .left) in
+    cc (writer-key-first (a .object) (omega arith) (a .writers) (a .may-read) (a .may-write) some (omega arith))
+
+pub writer-key-spec : {M : Type 1} → statement M
+writer-key-spec =
+    tie.close (tie.spec returns ceiling-requires first-requires lock-key-requires returns-2)

@@ -1,0 +1,66 @@
+-- Inherited ranks and the running job by whom each rank names: the array of the named holders, once made, answers for all jobs.
+-- Then that these are the inherited ranks and the running job of the state with those named holders.
+-- Assumes nothing.
+use mathlib.Core.Path.{_≡_, refl, sym, ap, _∙_}
+use mathlib.Core.Bool.{Bool, true, false, not, _&&_}
+use mathlib.Core.List.{List}
+use Prim.Native.Nat.{ℕ, _+_, _*_, _%_, _≤_}
+use native.Mathlib.Omega.{arith}
+use lib.Dec.{eqb}
+use borrow.Author.Tests.{ne-eqb}
+use Rattle.basics.specs.Arrays.{at}
+use Rattle.basics.specs.Choice.{if_then_else_}
+use Rattle.basics.specs.Loops.{least, least-same}
+use Rattle.ranks.specs.Ranks.{member}
+use Rattle.state.specs.declared.State.{State}
+use Rattle.state.specs.State.{isWaiting}
+use Rattle.rule.specs.Keys.{noKey}
+use Rattle.rule.specs.Granting.{namedKey, namedHolder}
+use Rattle.rule.specs.Running.{inheritedFrom, inheritedRank, isReady, readyKey, runningRank}
+
+-- each job's element is the rank that it names
+abbrev pub NamedBy : List ℕ → State → Type 0
+NamedBy named s = (r : ℕ) → 1 ≤ r → r ≤ s .jobs → at named r ≡ namedHolder s r
+
+-- r if it names j, else j
+abbrev pub heir : ℕ → ℕ → ℕ → ℕ
+heir named j r = if eqb named j then r else j
+
+unfoldable pub inheritedBy : ℕ → List ℕ → ℕ → ℕ
+inheritedBy jobs named j = least jobs j (λ r. heir (at named r) j r)
+
+-- r, with its own processor and request, is an active job of processor p that isn't waiting
+abbrev pub readyBy : ℕ → ℕ → ℕ → ℕ → ℕ → Bool
+readyBy own p active request r = eqb own p && member active r && not (not (eqb request 0))
+
+abbrev pub readyKeyBy : ℕ → List ℕ → Bool → ℕ → ℕ
+readyKeyBy jobs named ready r = if ready then inheritedBy jobs named r * 256 + r else noKey
+
+unfoldable pub runningBy : ℕ → List ℕ → List ℕ → ℕ → List ℕ → ℕ → ℕ
+runningBy jobs named processorOf active request p =
+    least jobs noKey (λ r. readyKeyBy jobs named (readyBy (at processorOf r) p active (at request r) r) r) % 256
+
+-- ---- of a state with these named holders
+
+-- a job that doesn't wait names nobody, so it is enough to ask whom a job names
+names-waiting : (s : State) (j r : ℕ) → 1 ≤ j → inheritedFrom s j r ≡ heir (namedHolder s r) j r
+unfolding namedKey
+names-waiting s j r p = go (isWaiting s r) refl
+  where
+    go : (w : Bool) → isWaiting s r ≡ w → inheritedFrom s j r ≡ heir (namedHolder s r) j r
+    go true e = rw e
+    go false e = let none : eqb 0 j ≡ false = ne-eqb 0 j (λ z. omega arith) in rw (e, none)
+
+module _ (named : List ℕ) (s : State) (by : NamedBy named s) where
+  pub inherited-by : (j : ℕ) → 1 ≤ j → inheritedBy (s .jobs) named j ≡ inheritedRank s j
+  unfolding inheritedBy inheritedRank
+  inherited-by j p =
+      least-same (s .jobs) j (λ r. heir (at named r) j r) (inheritedFrom s j)
+      (λ r a b. ap (λ (n : ℕ). heir n j r) (by r a b) ∙ sym (names-waiting s j r p))
+
+  pub running-by : (p : ℕ) → runningBy (s .jobs) named (s .«processor_of») (s .active) (s .request) p ≡ runningRank s p
+  unfolding runningBy runningRank
+  running-by p =
+      ap (λ (n : ℕ). n % 256)
+      (least-same (s .jobs) noKey _ (readyKey s p)
+      (λ r a b. ap (λ (n : ℕ). if isReady s p r then n * 256 + r else noKey) (inherited-by r a)))

@@ -1,0 +1,176 @@
+// Inherited ranks, and the job that a processor runs. Whom each rank names is worked out once and answers for all jobs.
+ghost use mathlib.Core.Path.{_≡_};
+ghost use Prim.Native.Nat.{_≤_, min};
+ghost use Rattle.ranks.specs.Ranks.{limit};
+ghost use Rattle.state.specs.State.{mostObjects};
+ghost use Rattle.rule.specs.Running as R;
+ghost use Rattle.rule.specs.Inheriting as I;
+ghost use Rattle.rule.specs.Parts as P;
+use crate::NO_KEY;
+use crate::key_holder;
+use crate::lower;
+use crate::named_key;
+use ranks::RankSet;
+use state::JobProcessors;
+use state::JobRequests;
+use state::ObjectSets;
+
+// A rank for each rank.
+type JobRanks = [u8; 64];
+
+// For each rank, the rank that it names; 0 where it does not wait or names nobody.
+fn named_holders<'a>(
+    jobs: u8,
+    objects: u8,
+    may_read: &'a ObjectSets,
+    may_write: &'a ObjectSets,
+    readers: &'a ObjectSets,
+    writers: &'a ObjectSets,
+    request: &'a JobRequests,
+) -> JobRanks
+    requires { ⌜ (jobs ≤ limit) × (objects ≤ mostObjects) ⌝ }
+    ensures { λ r. ⌜ I.NamedBy r (P.waitsState jobs objects (now («may_read» .entry)) (now («may_write» .entry)) (now (readers .entry)) (now (writers .entry)) (now (request .entry))) ⌝ }
+{
+    let mut named: JobRanks = [0; 64];
+    let mut rank: u8 = 0;
+    while rank < jobs {
+        let i = rank as usize;
+        rank += 1;
+        named[i] = key_holder(named_key(
+            objects,
+            may_read,
+            may_write,
+            readers,
+            writers,
+            request[i],
+            rank,
+        ));
+    }
+    named
+}
+
+// The other rank if it names the rank, else the rank.
+fn heir(named: u8, rank: u8, other: u8) -> u8
+    ensures { λ r. ⌜ r ≡ I.heir named rank other ⌝ }
+{
+    if named == rank { other } else { rank }
+}
+
+// The smaller of two ranks.
+fn lesser(a: u8, b: u8) -> u8
+    ensures { λ r. ⌜ r ≡ min a b ⌝ }
+{
+    if a < b { a } else { b }
+}
+
+// The most urgent of the rank and of the ranks that name it, by whom each rank names.
+fn inherited_by<'a>(jobs: u8, named: &'a JobRanks, rank: u8) -> u8
+    requires { ⌜ jobs ≤ limit ⌝ }
+    ensures { λ r. ⌜ r ≡ I.inheritedBy jobs (now (named .entry)) rank ⌝ }
+{
+    let mut inherited = rank;
+    let mut other: u8 = 0;
+    while other < jobs {
+        let i = other as usize;
+        other += 1;
+        inherited = lesser(inherited, heir(named[i], rank, other));
+    }
+    inherited
+}
+
+// The most urgent of the rank and of the waiting ranks that name it.
+pub fn inherited_rank<'a>(
+    jobs: u8,
+    objects: u8,
+    may_read: &'a ObjectSets,
+    may_write: &'a ObjectSets,
+    readers: &'a ObjectSets,
+    writers: &'a ObjectSets,
+    request: &'a JobRequests,
+    rank: u8,
+) -> u8
+    requires { ⌜ (jobs ≤ limit) × (objects ≤ mostObjects) × (1 ≤ rank) ⌝ }
+    ensures { λ r. ⌜ r ≡ R.inheritedRank (P.waitsState jobs objects (now («may_read» .entry)) (now («may_write» .entry)) (now (readers .entry)) (now (writers .entry)) (now (request .entry))) rank ⌝ }
+{
+    let named = named_holders(
+        jobs,
+        objects,
+        may_read,
+        may_write,
+        readers,
+        writers,
+        request,
+    );
+    inherited_by(jobs, &named, rank)
+}
+
+// Whether the rank, with its own processor and request, is an active job of the processor and isn't waiting.
+fn is_ready(own: u8, processor: u8, active: RankSet, request: u16, rank: u8) -> bool
+    requires { ⌜ (1 ≤ rank) × (rank ≤ limit) ⌝ }
+    ensures { λ r. ⌜ r ≡ I.readyBy own processor active request rank ⌝ }
+{
+    (own == processor) & ranks::contains(active, rank) & (request == 0)
+}
+
+// The key that orders ready jobs by inherited rank; no lock's key for a job that isn't ready.
+fn ready_key<'a>(jobs: u8, named: &'a JobRanks, ready: bool, rank: u8) -> u64
+    requires { ⌜ jobs ≤ limit ⌝ }
+    ensures { λ r. ⌜ r ≡ I.readyKeyBy jobs (now (named .entry)) ready rank ⌝ }
+{
+    if ready {
+        (inherited_by(jobs, named, rank) as u64) * 256 + (rank as u64)
+    } else {
+        NO_KEY
+    }
+}
+
+// The ready rank of the processor with the most urgent inherited rank, by whom each rank names; 0 where none is ready.
+fn running_by<'a>(
+    jobs: u8,
+    named: &'a JobRanks,
+    processor_of: &'a JobProcessors,
+    active: RankSet,
+    request: &'a JobRequests,
+    processor: u8,
+) -> u8
+    requires { ⌜ jobs ≤ limit ⌝ }
+    ensures { λ r. ⌜ r ≡ I.runningBy jobs (now (named .entry)) (now («processor_of» .entry)) active (now (request .entry)) processor ⌝ }
+{
+    let mut lowest = NO_KEY;
+    let mut rank: u8 = 0;
+    while rank < jobs {
+        let i = rank as usize;
+        rank += 1;
+        let ready = is_ready(processor_of[i], processor, active, request[i], rank);
+        lowest = lower(lowest, ready_key(jobs, named, ready, rank));
+    }
+    (lowest % 256) as u8
+}
+
+// The active rank of the processor that isn't waiting and has the most urgent inherited rank; 0 where the processor is idle.
+pub fn running_rank<'a>(
+    jobs: u8,
+    objects: u8,
+    processor_of: &'a JobProcessors,
+    active: RankSet,
+    may_read: &'a ObjectSets,
+    may_write: &'a ObjectSets,
+    readers: &'a ObjectSets,
+    writers: &'a ObjectSets,
+    request: &'a JobRequests,
+    processor: u8,
+) -> u8
+    requires { ⌜ (jobs ≤ limit) × (objects ≤ mostObjects) ⌝ }
+    ensures { λ r. ⌜ r ≡ R.runningRank (P.runState jobs objects (now («processor_of» .entry)) active (now («may_read» .entry)) (now («may_write» .entry)) (now (readers .entry)) (now (writers .entry)) (now (request .entry))) processor ⌝ }
+{
+    let named = named_holders(
+        jobs,
+        objects,
+        may_read,
+        may_write,
+        readers,
+        writers,
+        request,
+    );
+    running_by(jobs, &named, processor_of, active, request, processor)
+}

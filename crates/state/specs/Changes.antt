@@ -1,0 +1,204 @@
+-- What each change of a state does: `Same s t x` says that t says of job x what s says, and every change leaves each job but its own so.
+-- Then what a change does to the holders of each object, and to the request of its own job.
+-- Assumes nothing.
+use mathlib.Core.Path.{_≡_, refl, subst, ap, _∙_}
+use mathlib.Core.Logic.{_≢_}
+use mathlib.Core.Bool.{Bool, true, false}
+use Prim.Native.Nat.{ℕ, zero, suc, _^_, _≤_, _<_}
+use native.Mathlib.Omega.{arith}
+use native.Mathlib.Decide.{ℕ-discrete}
+use lib.Dec.{eqb}
+use Rattle.basics.specs.Choice.{if_then_else_}
+use Rattle.basics.specs.Arrays.{at, put, at-put-same, at-put-other, at-mapped}
+use Rattle.ranks.specs.Ranks.{limit, member, with, without}
+use Rattle.ranks.specs.RankLaws.{member-with-other, member-without-same, member-without-other, with-lt, without-lt}
+use Rattle.state.specs.declared.State.{State}
+use Rattle.state.specs.State.{mostObjects, read, write, holders, holds, isActive, hasUnlocked, requestOf, requestFor, withLocks}
+use Rattle.state.specs.State.{activate, await, grant, release, endRun}
+use Rattle.state.specs.Facts.{Sized}
+use Rattle.state.specs.Modes.{either-mode}
+
+-- the locks of t over the table of s: every change of s is of this form
+abbrev pub overTable : State → State → State
+overTable s t = withLocks s (t .active) (t .unlocked) (t .readers) (t .writers) (t .request)
+
+-- t says of job x what s says
+pub record Same (s t : State) (x : ℕ) : Type 0 where
+  pub active : isActive t x ≡ isActive s x
+  pub unlocked : hasUnlocked t x ≡ hasUnlocked s x
+  pub request : requestOf t x ≡ requestOf s x
+  pub locks : (m o : ℕ) → holds t m x o ≡ holds s m x o
+
+-- ---- the holders of an object after a grant to r in mode m
+
+-- r joins the readers, or leaves them for the writers
+abbrev pub readersAfter : (m r readers : ℕ) → ℕ
+readersAfter m r readers = if eqb m read then with readers r else without readers r
+
+abbrev pub writersAfter : (m r writers : ℕ) → ℕ
+writersAfter m r writers = if eqb m read then writers else with writers r
+
+module _ (m r v : ℕ) where
+  readers-after-other : (x : ℕ) → r ≢ x → member (readersAfter m r v) x ≡ member v x
+  readers-after-other x d = go (eqb m read)
+    where
+      go : (b : Bool) → member (if b then with v r else without v r) x ≡ member v x
+      go true = member-with-other v r x d
+      go false = member-without-other v r x d
+
+  writers-after-other : (x : ℕ) → r ≢ x → member (writersAfter m r v) x ≡ member v x
+  writers-after-other x d = go (eqb m read)
+    where
+      go : (b : Bool) → member (if b then v else with v r) x ≡ member v x
+      go true = refl
+      go false = member-with-other v r x d
+
+  pub readers-after-lt : (k : ℕ) → v < 2 ^ k → r ≤ k → readersAfter m r v < 2 ^ k
+  readers-after-lt k l h = go (eqb m read)
+    where
+      go : (b : Bool) → (if b then with v r else without v r) < 2 ^ k
+      go true = with-lt k v r l h
+      go false = without-lt k v r l
+
+  pub writers-after-lt : (k : ℕ) → v < 2 ^ k → r ≤ k → writersAfter m r v < 2 ^ k
+  writers-after-lt k l h = go (eqb m read)
+    where
+      go : (b : Bool) → (if b then v else with v r) < 2 ^ k
+      go true = l
+      go false = with-lt k v r l h
+
+-- ---- start and wait
+
+module _ (s : State) (r : ℕ) where
+  pub activate-same : (x : ℕ) → r ≢ x → Same s (activate s r) x
+  unfolding activate
+  activate-same x d = record { active = member-with-other (s .active) r x d; unlocked = refl; request = refl; locks = λ m o. refl }
+
+  pub await-same : (m o x : ℕ) → r ≢ x → Same s (await s m r o) x
+  unfolding await
+  await-same m o x d = record {
+    active = refl;
+    unlocked = refl;
+    request = at-put-other (s .request) r (requestFor m o) x d;
+    locks = λ n p. refl;
+  }
+
+  -- ---- the request of the job itself
+
+  module _ (Z : Sized s) (low : 1 ≤ r) (high : r ≤ limit) where
+    pub await-request : (m o : ℕ) → requestOf (await s m r o) r ≡ requestFor m o
+    unfolding await
+    await-request m o = at-put-same (s .request) r (requestFor m o) low (omega (arith, Z .request))
+
+    pub grant-request : (m o : ℕ) → requestOf (grant s m r o) r ≡ 0
+    unfolding grant
+    grant-request m o = at-put-same (s .request) r 0 low (omega (arith, Z .request))
+
+    pub end-request : requestOf (endRun s r) r ≡ 0
+    unfolding endRun
+    end-request = at-put-same (s .request) r 0 low (omega (arith, Z .request))
+
+  -- ---- the end of a run
+
+  without-none : without 0 r ≡ 0
+  unfolding without
+  without-none = none r
+    where
+      none : (r : ℕ) → without 0 r ≡ 0
+      none zero = refl
+      none (suc i) = refl
+
+  module _ (Z : Sized s) where
+    pub end-holders : (m o : ℕ) → holders (endRun s r) m o ≡ without (holders s m o) r
+    unfolding endRun
+    end-holders m o =
+        either-mode (λ f. f (at (endRun s r .readers) o) (at (endRun s r .writers) o) ≡ without (f (at (s .readers) o) (at (s .writers) o)) r)
+        (at-mapped (λ v. without v r) mostObjects (s .readers) o without-none (Z .readers))
+        (at-mapped (λ v. without v r) mostObjects (s .writers) o without-none (Z .writers)) m
+
+    pub end-same : (x : ℕ) → r ≢ x → Same s (endRun s r) x
+    unfolding endRun
+    end-same x d = record {
+      active = member-without-other (s .active) r x d;
+      unlocked = member-without-other (s .unlocked) r x d;
+      request = at-put-other (s .request) r 0 x d;
+      locks = λ m o. ap (λ v. member v x) (end-holders m o) ∙ member-without-other (holders s m o) r x d;
+    }
+
+    pub end-none : (m o : ℕ) → holds (endRun s r) m r o ≡ false
+    end-none m o = ap (λ v. member v r) (end-holders m o) ∙ member-without-same (holders s m o) r
+
+    -- ---- the release of one lock, and a grant
+
+    module _ (o : ℕ) (low : 1 ≤ o) (high : o ≤ mostObjects) where
+      pub release-holders : (m : ℕ) → holders (release s r o) m o ≡ without (holders s m o) r
+      unfolding release
+      release-holders =
+          either-mode (λ f. f (at (release s r o .readers) o) (at (release s r o .writers) o) ≡ without (f (at (s .readers) o) (at (s .writers) o)) r)
+          (at-put-same (s .readers) o (without (at (s .readers) o) r) low (omega (arith, Z .readers)))
+          (at-put-same (s .writers) o (without (at (s .writers) o) r) low (omega (arith, Z .writers)))
+
+      pub release-others : (m p : ℕ) → o ≢ p → holders (release s r o) m p ≡ holders s m p
+      unfolding release
+      release-others m p d =
+          either-mode (λ f. f (at (release s r o .readers) p) (at (release s r o .writers) p) ≡ f (at (s .readers) p) (at (s .writers) p))
+          (at-put-other (s .readers) o (without (at (s .readers) o) r) p d) (at-put-other (s .writers) o (without (at (s .writers) o) r) p d) m
+
+      pub release-none : (m : ℕ) → holds (release s r o) m r o ≡ false
+      release-none m = ap (λ v. member v r) (release-holders m) ∙ member-without-same (holders s m o) r
+
+      pub release-same : (x : ℕ) → r ≢ x → Same s (release s r o) x
+      unfolding release
+      release-same x d = record {
+        active = refl;
+        unlocked = member-with-other (s .unlocked) r x d;
+        request = refl;
+        locks = λ m p. elim (ℕ-discrete o p) [
+          | yes e ↦ subst (λ q. holds (release s r o) m x q ≡ holds s m x q) e
+              (ap (λ v. member v x) (release-holders m) ∙ member-without-other (holders s m o) r x d)
+          | no n ↦ ap (λ v. member v x) (release-others m p n)
+        ];
+      }
+
+      module _ (m : ℕ) where
+        pub grant-readers : holders (grant s m r o) read o ≡ readersAfter m r (holders s read o)
+        unfolding grant
+        grant-readers = at-put-same (s .readers) o (readersAfter m r (at (s .readers) o)) low (omega (arith, Z .readers))
+
+        pub grant-writers : holders (grant s m r o) write o ≡ writersAfter m r (holders s write o)
+        unfolding grant
+        grant-writers = go (eqb m read)
+          where
+            go : (b : Bool) → at (if b then s .writers else put (s .writers) o (with (at (s .writers) o) r)) o
+                ≡ (if b then at (s .writers) o else with (at (s .writers) o) r)
+            go true = refl
+            go false = at-put-same (s .writers) o (with (at (s .writers) o) r) low (omega (arith, Z .writers))
+
+        pub grant-others : (n p : ℕ) → o ≢ p → holders (grant s m r o) n p ≡ holders s n p
+        unfolding grant
+        grant-others n p d =
+            either-mode (λ f. f (at (grant s m r o .readers) p) (at (grant s m r o .writers) p) ≡ f (at (s .readers) p) (at (s .writers) p))
+            (at-put-other (s .readers) o (readersAfter m r (at (s .readers) o)) p d) (go (eqb m read)) n
+          where
+            go : (b : Bool) → at (if b then s .writers else put (s .writers) o (with (at (s .writers) o) r)) p ≡ at (s .writers) p
+            go true = refl
+            go false = at-put-other (s .writers) o (with (at (s .writers) o) r) p d
+
+        pub grant-same : (x : ℕ) → r ≢ x → Same s (grant s m r o) x
+        unfolding grant
+        grant-same x d = record {
+          active = refl;
+          unlocked = refl;
+          request = at-put-other (s .request) r 0 x d;
+          locks = λ n p. elim (ℕ-discrete o p) [
+            | yes e ↦ subst (λ q. holds (grant s m r o) n x q ≡ holds s n x q) e (there n)
+            | no k ↦ ap (λ v. member v x) (grant-others n p k)
+          ];
+        }
+          where
+            there : (n : ℕ) → holds (grant s m r o) n x o ≡ holds s n x o
+            there =
+                either-mode (λ f. member (f (holders (grant s m r o) read o) (holders (grant s m r o) write o)) x
+                ≡ member (f (holders s read o) (holders s write o)) x)
+                (ap (λ v. member v x) grant-readers ∙ readers-after-other m r (holders s read o) x d)
+                (ap (λ v. member v x) grant-writers ∙ writers-after-other m r (holders s write o) x d)

@@ -1,0 +1,61 @@
+-- What a well-formed state says of each job and object, by members of its sets: the record `Facts`, with the mode of a lock as an argument.
+-- WellFormedFacts shows that it says the same as the test `wellFormed`.
+-- Assumes nothing.
+use mathlib.Core.Path.{_≡_}
+use mathlib.Core.Logic.{_≢_, _⊎_}
+use mathlib.Core.Bool.{true, false}
+use Prim.Native.Nat.{ℕ, _^_, _≤_, _<_}
+use lib.ListN.{length}
+use Rattle.ranks.specs.Ranks.{limit, member}
+use Rattle.state.specs.declared.State.{State}
+use Rattle.state.specs.State.{mostObjects, read, write, isObject, processorOf, declared, holders, holds, hasUnlocked, requestOf, requestedMode, requestedObject}
+use Rattle.state.specs.Clauses.{Within}
+
+-- the lengths that the arrays of the code's record always have
+pub record Sized (s : State) : Type 0 where
+  pub processor-of : length (s .«processor_of») ≡ limit
+  pub may-read : length (s .«may_read») ≡ mostObjects
+  pub may-write : length (s .«may_write») ≡ mostObjects
+  pub readers : length (s .readers) ≡ mostObjects
+  pub writers : length (s .writers) ≡ mostObjects
+  pub request : length (s .request) ≡ limit
+
+-- rank r is in the set
+abbrev pub In : ℕ → ℕ → Type 0
+In set r = member set r ≡ true
+
+-- "a write lock shares its object with no other", its holder's own read lock included
+abbrev pub Alone : (readers writers : ℕ) → Type 0
+Alone readers writers = (a b : ℕ) → In writers a → (In writers b → a ≡ b) × (In readers b → ⊥)
+
+-- "locks only of active jobs with that right; at most one lock per job and object; a write lock shares its object with no other": of object o
+pub record LockFacts (s : State) (o : ℕ) : Type 0 where
+  pub jobs : (m : ℕ) → holders s m o < 2 ^ s .jobs
+  pub active : (m r : ℕ) → In (holders s m o) r → In (s .active) r
+  pub right : (m r : ℕ) → In (holders s m o) r → In (declared s m o) r
+  pub alone : Alone (holders s read o) (holders s write o)
+
+-- "a waiting job is active, hasn't unlocked, and asks for a declared lock that 17 wouldn't refuse": of rank r and the lock on o in mode m
+pub record RequestFacts (s : State) (m r o : ℕ) : Type 0 where
+  pub mode : (m ≡ read) ⊎ (m ≡ write)
+  pub object : (1 ≤ o) × (o ≤ s .objects)
+  pub active : In (s .active) r
+  pub not-unlocked : hasUnlocked s r ≡ false
+  pub right : In (declared s m o) r
+  pub not-held : holds s m r o ≡ false
+  pub not-written : holds s write r o ≡ false
+
+pub record Facts (s : State) : Type 0 where
+  pub sized : Sized s
+  -- "counts, processors and declarations within limits"
+  pub counts : Within (s .processors) (s .jobs) (s .objects)
+  pub processors : (r : ℕ) → 1 ≤ r → r ≤ s .jobs → processorOf s r < s .processors
+  pub declared-objects : (m o : ℕ) → isObject s o ≡ false → declared s m o ≡ 0
+  -- "ranks above the job count idle, with nothing declared"
+  pub declared-jobs : (m o : ℕ) → declared s m o < 2 ^ s .jobs
+  pub active-jobs : s .active < 2 ^ s .jobs
+  pub locks : (o : ℕ) → LockFacts s o
+  pub requests : (r : ℕ) → requestOf s r ≢ 0 → RequestFacts s (requestedMode s r) r (requestedObject s r)
+  -- "an idle job carries no mark of unlocking"
+  pub marks : (r : ℕ) → In (s .unlocked) r → In (s .active) r
+  pub marks-jobs : s .unlocked < 2 ^ s .jobs

@@ -1,0 +1,298 @@
+-- A state whose arrays have their lengths is well formed if and only if its facts hold: `facts-well-formed` and `facts`.
+-- Then what the facts say of a lock and of a waiting job: they are of the table.
+-- Assumes nothing.
+use mathlib.Core.Path.{_≡_, refl, sym, ap, _∙_}
+use mathlib.Core.Logic.{_≢_, _⊎_, inl, inr, ⊎-elim}
+use mathlib.Core.Bool.{Bool, true, false, not, _&&_, _||_}
+use Prim.Native.Nat.{ℕ, zero, suc, _^_, _≤_, _<_}
+use native.Mathlib.Nat.{eq-zero-or-pos}
+use native.Mathlib.Omega.{arith}
+use native.Mathlib.Decide.{ℕ-discrete, decLe}
+use lib.Dec.{eqb}
+use lib.Pow.{pow-pos}
+use lib.Bits.{or-add-and, and-le-l, and-le-r}
+use borrow.Author.Tests.{eqb-true, eq-eqb, ne-eqb, ltb-true, lt-ltb, not-true}
+use Rattle.basics.specs.Choice.{between, clash, and-true, and-left, and-right, or-right, neither, between-true, inside-between}
+use Rattle.basics.specs.Loops.{every, every-at, every-true}
+use Rattle.basics.specs.Arrays.{at, at-out}
+use Rattle.ranks.specs.Ranks.{limit, member, first, union, subset, atMostOne}
+use Rattle.ranks.specs.RankLaws.{member-pos, member-le, member-empty, first-some, first-member, subset-member, member-subset}
+use Rattle.ranks.specs.RankLaws.{member-disjoint, one-member, member-one}
+use Rattle.ranks.specs.UnionLaws.{union-left, union-right, union-either, union-lt, subset-le, empty-union}
+use Rattle.state.specs.declared.State.{State}
+use Rattle.state.specs.State.{mostObjects, mostProcessors, read, write, isObject, processorOf}
+use Rattle.state.specs.State.{declared, declaredAny, mayLock, holders, holdersAny}
+use Rattle.state.specs.State.{holds, holdsAlready, isActive, hasUnlocked, requestOf, requestedMode, requestedObject}
+use Rattle.state.specs.WellFormed.{processorFits, processorsFit, declarationFits, declarationsFit, ofJobs, declaredOfJobs, aboveIdle}
+use Rattle.state.specs.WellFormed.{heldByActive, heldByRight, locksFit, lockedOnce, oneLockEach, alone, writtenAlone, writersAlone}
+use Rattle.state.specs.WellFormed.{mayAwait, waitFits, waitsFit, marksFit, wellFormed}
+use Rattle.state.specs.Clauses.{Clauses, clauses, well-formed, counts-within}
+use Rattle.state.specs.Modes.{either-mode}
+use Rattle.state.specs.Facts.{Sized, In, Alone, LockFacts, RequestFacts, Facts}
+
+-- nothing is in an empty set
+pub none-in : (set r : ℕ) → set ≡ 0 → In set r → ⊥
+none-in set r e i = clash (ap (λ v. member v r) (sym e) ∙ i) (member-empty r)
+
+-- ---- who writes is alone
+
+alone-true : (k r w : ℕ) → r < 2 ^ k → w < 2 ^ k → Alone r w → alone r w ≡ true
+alone-true k r w hr hw f =
+    and-true _ _ (member-one k w hw (λ a b i j. f a b i .0 j)) (one-empty (eq-zero-or-pos w) (eq-zero-or-pos r))
+  where
+    one-empty : (w ≡ 0) ⊎ (0 < w) → (r ≡ 0) ⊎ (0 < r) → eqb w 0 || eqb r 0 ≡ true
+    one-empty (inl z) q = simp (eq-eqb w 0 z)
+    one-empty (inr p) (inl z) = or-right (eqb w 0) (eqb r 0) (eq-eqb r 0 z)
+    one-empty (inr p) (inr q) =
+        absurd (f (first k w) (first k r) (first-member k w (first-some k w p hw)) .1 (first-member k r (first-some k r q hr)))
+
+true-alone : (r w : ℕ) → alone r w ≡ true → Alone r w
+true-alone r w e a b i =
+    (λ j. one-member w a b (and-left (atMostOne w) _ e) i j, λ j. go (eqb w 0) refl (and-right (atMostOne w) _ e) j)
+  where
+    go : (t : Bool) → eqb w 0 ≡ t → t || eqb r 0 ≡ true → In r b → ⊥
+    go true q z j = none-in w a (eqb-true w 0 q) i
+    go false q z j = none-in r b (eqb-true r 0 z) j
+
+-- ---- the facts pass the test
+
+module _ (s : State) (F : Facts s) where
+  declaration-test : (o : ℕ) → declarationFits s o ≡ true
+  declaration-test o = go (isObject s o) refl
+    where
+      go : (b : Bool) → isObject s o ≡ b → b || eqb (declaredAny s o) 0 ≡ true
+      go true e = refl
+      go false e =
+          simp (
+            empty-union,
+            eq-eqb (declared s read o) 0 (F .declared-objects read o e),
+            eq-eqb (declared s write o) 0 (F .declared-objects write o e),
+          )
+
+  above-test : aboveIdle s ≡ true
+  unfolding aboveIdle
+  above-test =
+      and-true _ _ (lt-ltb (s .active) (2 ^ s .jobs) (F .active-jobs))
+      (every-true mostObjects (declaredOfJobs s) (λ o a b. lt-ltb (declaredAny s o) (2 ^ s .jobs)
+      (union-lt (s .jobs) (declared s read o) (declared s write o) (F .declared-jobs read o) (F .declared-jobs write o))))
+
+  active-test : (o : ℕ) → heldByActive s o ≡ true
+  active-test o =
+      let L = F .locks o in
+      member-subset (s .jobs) (holdersAny s o) (s .active)
+      (union-lt (s .jobs) (holders s read o) (holders s write o) (L .jobs read) (L .jobs write))
+      (λ r l i. ⊎-elim (L .active read r) (L .active write r) (union-either (holders s read o) (holders s write o) r i))
+
+  right-test : (o : ℕ) → heldByRight s o ≡ true
+  right-test o =
+      let L = F .locks o in
+      let one : (m : ℕ) → subset (holders s m o) (declared s m o) ≡ true =
+      λ m. member-subset (s .jobs) (holders s m o) (declared s m o) (L .jobs m) (λ r l. L .right m r) in
+      and-true _ _ (one read) (one write)
+
+  locks-test : locksFit s ≡ true
+  unfolding locksFit
+  locks-test =
+      and-true _ _ (every-true mostObjects (heldByActive s) (λ o a b. active-test o))
+      (every-true mostObjects (heldByRight s) (λ o a b. right-test o))
+
+  once-test : (o : ℕ) → lockedOnce s o ≡ true
+  once-test o =
+      let L = F .locks o in
+      member-disjoint (s .jobs) (holders s read o) (holders s write o) (L .jobs read) (λ r l i j. L .alone r r j .1 i)
+
+  alone-test : (o : ℕ) → writtenAlone s o ≡ true
+  alone-test o =
+      let L = F .locks o in
+      alone-true (s .jobs) (holders s read o) (holders s write o) (L .jobs read) (L .jobs write) (L .alone)
+
+  request-test : (m r o : ℕ) → RequestFacts s m r o → mayAwait s m r o ≡ true
+  request-test m r o A =
+      let known : between read write m ≡ true = elim (A .mode) [
+        | inl e ↦ inside-between read write m (omega arith) (omega arith)
+        | inr e ↦ inside-between read write m (omega arith) (omega arith)
+      ] in
+      simp (known, inside-between 1 (s .objects) o (A .object .0) (A .object .1), A .active, A .not-unlocked, A .right, A .not-held, A .not-written)
+
+  wait-test : (r : ℕ) → waitFits s r ≡ true
+  wait-test r = elim (ℕ-discrete (requestOf s r) 0) [
+    | yes e ↦ simp (eq-eqb (requestOf s r) 0 e)
+    | no n ↦ simp (ne-eqb (requestOf s r) 0 n) (request-test (requestedMode s r) r (requestedObject s r) (F .requests r n))
+  ]
+
+  facts-clauses : Clauses s
+  unfolding processorsFit declarationsFit oneLockEach writersAlone waitsFit marksFit
+  facts-clauses =
+      let c = F .counts in
+      record {
+        counts = simp (
+          inside-between 1 mostProcessors (s .processors) (c .processors .0) (c .processors .1),
+          inside-between 1 limit (s .jobs) (c .jobs .0) (c .jobs .1),
+          inside-between 1 mostObjects (s .objects) (c .objects .0) (c .objects .1),
+        );
+        processors = every-true (s .jobs) (processorFits s) (λ r a b. lt-ltb (processorOf s r) (s .processors) (F .processors r a b));
+        declarations = every-true mostObjects (declarationFits s) (λ o a b. declaration-test o);
+        above = above-test;
+        locks = locks-test;
+        once = every-true mostObjects (lockedOnce s) (λ o a b. once-test o);
+        alone = every-true mostObjects (writtenAlone s) (λ o a b. alone-test o);
+        waits = every-true limit (waitFits s) (λ r a b. wait-test r);
+        marks = member-subset (s .jobs) (s .unlocked) (s .active) (F .marks-jobs) (λ r l. F .marks r);
+      }
+
+  pub facts-well-formed : wellFormed s ≡ true
+  facts-well-formed = well-formed s facts-clauses
+
+-- ---- the test gives the facts
+
+within : (n i : ℕ) → Dec ((1 ≤ i) × (i ≤ n))
+within n i = elim (decLe 1 i) [ yes a ↦ elim (decLe i n) [ yes b ↦ yes (a, b) | no d ↦ no (λ q. d (q .1)) ] | no d ↦ no (λ q. d (q .0)) ]
+
+module _ (s : State) (z : Sized s) (w : wellFormed s ≡ true) where
+  abbrev C : Clauses s
+  C = clauses s w
+
+  -- past the arrays of the table nobody is declared, and nobody holds a lock
+  past-declared : (m o : ℕ) → ¬ ((1 ≤ o) × (o ≤ mostObjects)) → declared s m o ≡ 0
+  past-declared m o d =
+      either-mode (λ f. f (at (s .«may_read») o) (at (s .«may_write») o) ≡ 0)
+      (at-out (s .«may_read») mostObjects o (z .may-read) d) (at-out (s .«may_write») mostObjects o (z .may-write) d) m
+
+  past-holders : (m o : ℕ) → ¬ ((1 ≤ o) × (o ≤ mostObjects)) → holders s m o ≡ 0
+  past-holders m o d =
+      either-mode (λ f. f (at (s .readers) o) (at (s .writers) o) ≡ 0)
+      (at-out (s .readers) mostObjects o (z .readers) d) (at-out (s .writers) mostObjects o (z .writers) d) m
+
+  -- what holds of both sets of declarations of an object holds of either mode's
+  declared-part : (P : ℕ → Type 0) (o : ℕ) → P (declared s read o) → P (declared s write o) → (m : ℕ) → P (declared s m o)
+  declared-part P o = either-mode (λ f. P (f (at (s .«may_read») o) (at (s .«may_write») o)))
+
+  objects-fact : (m o : ℕ) → isObject s o ≡ false → declared s m o ≡ 0
+  unfolding declarationsFit
+  objects-fact m o e = elim (within mostObjects o) [
+    | yes i ↦
+        let t = fits (isObject s o) e (every-at mostObjects (declarationFits s) o (C .declarations) (i .0) (i .1)) in
+        declared-part (λ v. v ≡ 0) o (eqb-true _ 0 (and-left _ _ t)) (eqb-true _ 0 (and-right (eqb (declared s read o) 0) _ t)) m
+    | no d ↦ past-declared m o d
+  ]
+    where
+      fits : (b : Bool) → b ≡ false → b || eqb (declaredAny s o) 0 ≡ true → eqb (declared s read o) 0 && eqb (declared s write o) 0 ≡ true
+      fits true q t = absurd (clash refl q)
+      fits false q t = sym (empty-union (declared s read o) (declared s write o)) ∙ t
+
+  active-fact : s .active < 2 ^ s .jobs
+  unfolding aboveIdle
+  active-fact = ltb-true (s .active) (2 ^ s .jobs) (and-left _ _ (C .above))
+
+  declared-fact : (m o : ℕ) → declared s m o < 2 ^ s .jobs
+  unfolding aboveIdle
+  declared-fact m o = elim (within mostObjects o) [
+    | yes i ↦
+        let reading = declared s read o in
+        let writing = declared s write o in
+        let all = every-at mostObjects (declaredOfJobs s) o (and-right (ofJobs s (s .active)) _ (C .above)) (i .0) (i .1) in
+        let both = ltb-true (union reading writing) (2 ^ s .jobs) all in
+        declared-part (λ v. v < 2 ^ s .jobs) o (omega (arith, both, or-add-and reading writing, and-le-r reading writing))
+        (omega (arith, both, or-add-and reading writing, and-le-l reading writing)) m
+    | no d ↦ omega (arith, past-declared m o d, pow-pos (s .jobs))
+  ]
+
+  -- the locks on an object of the arrays
+  inside-locks : (o : ℕ) → 1 ≤ o → o ≤ mostObjects → LockFacts s o
+  unfolding locksFit writersAlone
+  inside-locks o a b =
+      let byActive = every-at mostObjects (heldByActive s) o (and-left _ _ (C .locks)) a b in
+      let byRight = every-at mostObjects (heldByRight s) o (and-right (every mostObjects (heldByActive s)) _ (C .locks)) a b in
+      let reading = holders s read o in
+      let writing = holders s write o in
+      let active : (m r : ℕ) → In (holders s m o) r → In (s .active) r =
+      either-mode (λ f. (r : ℕ) → In (f (at (s .readers) o) (at (s .writers) o)) r → In (s .active) r)
+      (λ r i. subset-member (holdersAny s o) (s .active) r byActive (union-left reading writing r i))
+      (λ r i. subset-member (holdersAny s o) (s .active) r byActive (union-right reading writing r i)) in
+      let right : (m : ℕ) → subset (holders s m o) (declared s m o) ≡ true =
+      either-mode (λ f. subset (f (at (s .readers) o) (at (s .writers) o)) (f (at (s .«may_read») o) (at (s .«may_write») o)) ≡ true)
+      (and-left _ _ byRight) (and-right (subset reading (declared s read o)) _ byRight) in
+      record {
+        jobs = λ m. omega (arith, subset-le (holders s m o) (declared s m o) (right m), declared-fact m o);
+        active = active;
+        right = λ m r i. subset-member (holders s m o) (declared s m o) r (right m) i;
+        alone = true-alone reading writing (every-at mostObjects (writtenAlone s) o (C .alone) a b);
+      }
+
+  outside-locks : (o : ℕ) → ¬ ((1 ≤ o) × (o ≤ mostObjects)) → LockFacts s o
+  outside-locks o d = record {
+    jobs = λ m. omega (arith, past-holders m o d, pow-pos (s .jobs));
+    active = λ m r i. absurd (none-in (holders s m o) r (past-holders m o d) i);
+    right = λ m r i. absurd (none-in (holders s m o) r (past-holders m o d) i);
+    alone = λ a b i. absurd (none-in (holders s write o) a (past-holders write o d) i);
+  }
+
+  request-fact : (m r o : ℕ) → mayAwait s m r o ≡ true → RequestFacts s m r o
+  request-fact m r o e =
+      let t1 = between read write m in
+      let t2 = t1 && isObject s o in
+      let t3 = t2 && isActive s r in
+      let t4 = t3 && not (hasUnlocked s r) in
+      let t5 = t4 && mayLock s m r o in
+      let e5 = and-left t5 (not (holdsAlready s m r o)) e in
+      let e4 = and-left t4 (mayLock s m r o) e5 in
+      let e3 = and-left t3 (not (hasUnlocked s r)) e4 in
+      let e2 = and-left t2 (isActive s r) e3 in
+      let known = between-true read write m (and-left t1 (isObject s o) e2) in
+      let new = neither (holds s m r o) (holds s write r o) (and-right t5 (not (holdsAlready s m r o)) e) in
+      record {
+        mode = which m (known .0) (known .1);
+        object = between-true 1 (s .objects) o (and-right t1 (isObject s o) e2);
+        active = and-right t2 (isActive s r) e3;
+        not-unlocked = not-true (hasUnlocked s r) (and-right t3 (not (hasUnlocked s r)) e4);
+        right = and-right t4 (mayLock s m r o) e5;
+        not-held = new .0;
+        not-written = new .1;
+      }
+    where
+      which : (m : ℕ) → 1 ≤ m → m ≤ 2 → (m ≡ 1) ⊎ (m ≡ 2)
+      which zero a b = absurd (omega arith)
+      which (suc zero) a b = inl refl
+      which (suc (suc m)) a b = inr (omega arith)
+
+  waiting-fact : (r : ℕ) → requestOf s r ≢ 0 → RequestFacts s (requestedMode s r) r (requestedObject s r)
+  unfolding waitsFit
+  waiting-fact r d = elim (within limit r) [
+    | yes i ↦ request-fact (requestedMode s r) r (requestedObject s r)
+        (simp (ne-eqb (requestOf s r) 0 d) at (every-at limit (waitFits s) r (C .waits) (i .0) (i .1)))
+    | no n ↦ absurd (d (at-out (s .request) limit r (z .request) n))
+  ]
+
+  pub facts : Facts s
+  unfolding processorsFit marksFit
+  facts = record {
+    sized = z;
+    counts = counts-within (s .processors) (s .jobs) (s .objects) (C .counts);
+    processors = λ r a b. ltb-true (processorOf s r) (s .processors) (every-at (s .jobs) (processorFits s) r (C .processors) a b);
+    declared-objects = objects-fact;
+    declared-jobs = declared-fact;
+    active-jobs = active-fact;
+    locks = λ o. elim (within mostObjects o) [ yes i ↦ inside-locks o (i .0) (i .1) | no d ↦ outside-locks o d ];
+    requests = waiting-fact;
+    marks = λ r i. subset-member (s .unlocked) (s .active) r (C .marks) i;
+    marks-jobs = omega (arith, subset-le (s .unlocked) (s .active) (C .marks), active-fact);
+  }
+
+-- ---- locks and waiting jobs are of the table
+
+module _ (s : State) (F : Facts s) where
+  pub active-rank : (r : ℕ) → In (s .active) r → (1 ≤ r) × (r ≤ s .jobs)
+  active-rank r i = (member-pos (s .active) r i, member-le (s .jobs) (s .active) r (F .active-jobs) i)
+
+  pub held-rank : (m r o : ℕ) → In (holders s m o) r → (1 ≤ r) × (r ≤ s .jobs)
+  held-rank m r o i = active-rank r (F .locks o .active m r i)
+
+  pub held-object : (m r o : ℕ) → In (holders s m o) r → (1 ≤ o) × (o ≤ s .objects)
+  held-object m r o i = go (isObject s o) refl
+    where
+      go : (b : Bool) → isObject s o ≡ b → (1 ≤ o) × (o ≤ s .objects)
+      go true e = between-true 1 (s .objects) o e
+      go false e = absurd (none-in (declared s m o) r (F .declared-objects m o e) (F .locks o .right m r i))
+
+  pub waiting-rank : (r : ℕ) → requestOf s r ≢ 0 → (1 ≤ r) × (r ≤ s .jobs)
+  waiting-rank r d = active-rank r (F .requests r d .active)

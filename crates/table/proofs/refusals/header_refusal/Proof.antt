@@ -1,0 +1,82 @@
+-- `table::refusals::header_refusal` meets its contract, test by test.
+-- Assumes nothing.
+use mathlib.Core.Path.{sym, _∙_}
+use borrow.Author.Tests.{lt-ltb, le-ltb, eq-eqb, ne-eqb, not-true, not-false}
+use Rattle.table.specs.Refusals.{headerRefusal}
+use borrow.Author.Needs.{needs}
+use Rattle.table.proofs.refusals.header_refusal.Statement.{statement}
+use Rattle.table.proofs.refusals.header_refusal.Tie as tie
+
+returns : tie.Need-returns
+unfolding headerRefusal
+returns c = simp (lt-ltb _ _ (c .if1 .taken))
+
+shared-slice-read-is-mark : tie.Need-shared-slice-read-is-mark
+shared-slice-read-is-mark c = search needs
+
+shared-slice-read-is-mark-2 : tie.Need-shared-slice-read-is-mark-2
+shared-slice-read-is-mark-2 c = search needs
+
+shared-slice-read-is-mark-3 : tie.Need-shared-slice-read-is-mark-3
+shared-slice-read-is-mark-3 c = search needs
+
+is-mark-requires : tie.Need-is-mark-requires
+is-mark-requires c κs = search needs
+
+returns-2 : tie.Need-returns-2
+unfolding headerRefusal
+returns-2 c = simp (le-ltb _ _ (c .before .before .before .before .before .if1 .left), sym (c .before .is-mark .ensures) ∙ not-true _ (c .if2 .taken))
+
+shared-slice-read-word : tie.Need-shared-slice-read-word
+shared-slice-read-word c = search needs
+
+shared-slice-read-word-2 : tie.Need-shared-slice-read-word-2
+shared-slice-read-word-2 c = search needs
+
+word-requires : tie.Need-word-requires
+word-requires c κs = search needs
+
+returns-3 : tie.Need-returns-3
+unfolding headerRefusal
+returns-3 c = simp (le-ltb _ _ (c .before .before .before .before .before .before .before .before .before .if1 .left), sym (c .before .before .before .before .before .is-mark .ensures) ∙ not-false _ (c .before .before .before .before .if2 .left), ne-eqb _ _ (λ e. c .if3 .taken (c .before .word .ensures .0 ∙ e)))
+
+shared-slice-read-counts-within : tie.Need-shared-slice-read-counts-within
+shared-slice-read-counts-within c = search needs
+
+shared-slice-read-counts-within-2 : tie.Need-shared-slice-read-counts-within-2
+shared-slice-read-counts-within-2 c = search needs
+
+shared-slice-read-counts-within-3 : tie.Need-shared-slice-read-counts-within-3
+shared-slice-read-counts-within-3 c = search needs
+
+counts-within-requires : tie.Need-counts-within-requires
+counts-within-requires c κs = search needs
+
+returns-4 : tie.Need-returns-4
+unfolding headerRefusal
+returns-4 c = simp (le-ltb _ _ (c .before .before .before .before .before .before .before .before .before .before .before .before .before .before .if1 .left), sym (c .before .before .before .before .before .before .before .before .before .before .is-mark .ensures) ∙ not-false _ (c .before .before .before .before .before .before .before .before .before .if2 .left), eq-eqb _ _ (sym (c .before .before .before .before .before .before .word .ensures .0) ∙ c .before .before .before .before .before .if3 .left), sym (c .before .counts-within .ensures) ∙ not-true _ (c .if4 .taken))
+
+returns-5 : tie.Need-returns-5
+unfolding headerRefusal
+returns-5 c = simp (le-ltb _ _ (c .before .before .before .before .before .before .before .before .before .before .before .before .before .before .if1 .left), sym (c .before .before .before .before .before .before .before .before .before .before .is-mark .ensures) ∙ not-false _ (c .before .before .before .before .before .before .before .before .before .if2 .left), eq-eqb _ _ (sym (c .before .before .before .before .before .before .word .ensures .0) ∙ c .before .before .before .before .before .if3 .left), sym (c .before .counts-within .ensures) ∙ not-false _ (c .if4 .left))
+
+pub header-refusal-spec : {M : Type 1} → statement M
+header-refusal-spec =
+    tie.close
+    (tie.spec
+    returns
+    shared-slice-read-is-mark
+    shared-slice-read-is-mark-2
+    shared-slice-read-is-mark-3
+    is-mark-requires
+    returns-2
+    shared-slice-read-word
+    shared-slice-read-word-2
+    word-requires
+    returns-3
+    shared-slice-read-counts-within
+    shared-slice-read-counts-within-2
+    shared-slice-read-counts-within-3
+    counts-within-requires
+    returns-4
+    returns-5)

@@ -1,0 +1,28 @@
+// How many entries a table has.
+ghost use mathlib.Core.Path.{_≡_};
+ghost use Prim.Native.Nat.{_*_, _≤_};
+ghost use Rattle.ranks.specs.Ranks.{union, size, limit};
+ghost use Rattle.table_writer.specs.Laying.{entryTotal};
+use ranks::RankSet;
+use state::ObjectSets;
+
+// How many entries an object has: one for each rank that may read or write it.
+fn object_entries(reads: RankSet, writes: RankSet) -> usize
+    ensures { λ r. ⌜ (r ≡ size (union reads writes)) × (r ≤ limit) ⌝ }
+{
+    ranks::size(ranks::union(reads, writes))
+}
+
+// How many entries the objects up to the count have.
+pub fn entry_count<'a>(reads: &'a ObjectSets, writes: &'a ObjectSets, objects: u8) -> usize
+    requires { ⌜ objects ≤ 128 ⌝ }
+    ensures { λ r. ⌜ (r ≡ entryTotal (now (reads .entry)) (now (writes .entry)) objects) × (r ≤ limit * objects) ⌝ }
+{
+    let mut count = 0;
+    let mut i = 0;
+    while i < objects as usize {
+        count += object_entries(reads[i], writes[i]);
+        i += 1;
+    }
+    count
+}

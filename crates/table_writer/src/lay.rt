@@ -1,0 +1,153 @@
+// The parts of a table laid into a buffer, and the table made of them.
+ghost use mathlib.Core.Path.{_≡_};
+ghost use Prim.Native.Nat.{_+_, _*_, _≤_};
+ghost use lib.ListN.{length, take};
+ghost use Rattle.basics.specs.Choice.{if_then_else_};
+ghost use Rattle.ranks.specs.Ranks.{limit};
+ghost use Rattle.table_writer.specs.Writing.{wordBytes, entryBytes};
+ghost use Rattle.table_writer.specs.Laying.{modeIn, modesIn, entriesOfRank, entriesOfRanks, headerOf, tableOf, laid};
+use ranks::RankSet;
+use ranks::contains;
+use state::JobProcessors;
+use state::ObjectSets;
+
+// The number where the test holds, else 0.
+fn when(test: bool, number: u8) -> u8
+    ensures { λ r. ⌜ (r ≡ (if test then number else 0)) × (r ≤ number) ⌝ }
+{
+    if test { number } else { 0 }
+}
+
+// The mode of the rank's entry for an object with these declared ranks: 1 read, 2 write, 3 both, 0 none.
+fn declared_mode(reads: RankSet, writes: RankSet, rank: u8) -> u8
+    requires { ⌜ (1 ≤ rank) × (rank ≤ limit) ⌝ }
+    ensures { λ r. ⌜ r ≡ modeIn reads writes rank ⌝ }
+{
+    when(contains(reads, rank), 1) + when(contains(writes, rank), 2)
+}
+
+// An entry laid at the index, where its mode is not 0; answers the index behind it.
+fn lay_entry(buf: &mut [u8], at: usize, rank: u8, object: u8, mode: u8) -> usize
+    requires { ⌜ at + length (entryBytes rank object mode) ≤ length (now buf) ⌝ }
+    ensures { λ r. ⌜ (r ≡ at + length (entryBytes rank object mode))
+        × (now (buf .exit) ≡ laid (now (buf .entry)) at (entryBytes rank object mode)) ⌝ }
+{
+    if mode == 0 {
+        return at;
+    }
+    buf[at] = rank;
+    buf[at + 1] = object;
+    buf[at + 2] = mode;
+    at + 3
+}
+
+// The rank's entries laid from the index on, by object; answers the index behind them.
+fn lay_rank<'a>(
+    buf: &mut [u8],
+    at: usize,
+    reads: &'a ObjectSets,
+    writes: &'a ObjectSets,
+    rank: u8,
+    objects: u8,
+) -> usize
+    requires { ⌜ (1 ≤ rank) × (rank ≤ limit) × (objects ≤ 128)
+        × (at + length (entriesOfRank (modesIn (now reads) (now writes)) rank objects) ≤ length (now buf)) ⌝ }
+    ensures { λ r. ⌜ (r ≡ at + length (entriesOfRank (modesIn (now (reads .entry)) (now (writes .entry))) rank objects))
+        × (now (buf .exit) ≡ laid (now (buf .entry)) at (entriesOfRank (modesIn (now (reads .entry)) (now (writes .entry))) rank objects)) ⌝ }
+{
+    let mut end = at;
+    let mut object = 0;
+    while object < objects {
+        let i = object as usize;
+        object += 1;
+        end = lay_entry(
+            buf,
+            end,
+            rank,
+            object,
+            declared_mode(reads[i], writes[i], rank),
+        );
+    }
+    end
+}
+
+// The entries of the ranks up to the job count laid from the index on, by rank, then object.
+fn lay_entries<'a>(
+    buf: &mut [u8],
+    at: usize,
+    reads: &'a ObjectSets,
+    writes: &'a ObjectSets,
+    jobs: u8,
+    objects: u8,
+)
+    requires { ⌜ (jobs ≤ limit) × (objects ≤ 128)
+        × (at + length (entriesOfRanks (modesIn (now reads) (now writes)) objects jobs) ≤ length (now buf)) ⌝ }
+    ensures { λ _. ⌜ now (buf .exit) ≡ laid (now (buf .entry)) at (entriesOfRanks (modesIn (now (reads .entry)) (now (writes .entry))) objects jobs) ⌝ }
+{
+    let mut end = at;
+    let mut rank = 0;
+    while rank < jobs {
+        rank += 1;
+        end = lay_rank(buf, end, reads, writes, rank, objects);
+    }
+}
+
+// The mark, the version and the three counts laid at the front.
+fn lay_header(buf: &mut [u8], processors: u8, jobs: u8, objects: u8)
+    requires { ⌜ 8 ≤ length (now buf) ⌝ }
+    ensures { λ _. ⌜ now (buf .exit) ≡ laid (now (buf .entry)) 0 (headerOf processors jobs objects) ⌝ }
+{
+    buf[0] = b'J';
+    buf[1] = b'O';
+    buf[2] = b'B';
+    buf[3] = 0;
+    buf[4] = 1;
+    buf[5] = processors;
+    buf[6] = jobs;
+    buf[7] = objects;
+}
+
+// The processor bytes of the ranks up to the job count laid behind the header.
+fn lay_processors(buf: &mut [u8], processor_of: &JobProcessors, jobs: usize)
+    requires { ⌜ (jobs ≤ limit) × (length (now «processor_of») ≡ limit) × (8 + jobs ≤ length (now buf)) ⌝ }
+    ensures { λ _. ⌜ now (buf .exit) ≡ laid (now (buf .entry)) 8 (take jobs (now («processor_of» .entry))) ⌝ }
+{
+    let mut i = 0;
+    while i < jobs {
+        buf[8 + i] = processor_of[i];
+        i += 1;
+    }
+}
+
+// The number laid at the index in 16 bits, high byte first.
+fn lay_word(buf: &mut [u8], at: usize, number: usize)
+    requires { ⌜ at + 2 ≤ length (now buf) ⌝ }
+    ensures { λ _. ⌜ now (buf .exit) ≡ laid (now (buf .entry)) at (wordBytes number) ⌝ }
+{
+    buf[at] = (number / 256 % 256) as u8;
+    buf[at + 1] = (number % 256) as u8;
+}
+
+// The table laid at the front of the buffer, the rest left; the entry count is given.
+pub fn lay_table<'a>(
+    buf: &mut [u8],
+    processors: u8,
+    jobs: u8,
+    objects: u8,
+    processor_of: &'a JobProcessors,
+    reads: &'a ObjectSets,
+    writes: &'a ObjectSets,
+    count: usize,
+)
+    requires { ⌜ (jobs ≤ limit) × (objects ≤ 128) × (length (now «processor_of») ≡ limit)
+        × (3 * count ≡ length (entriesOfRanks (modesIn (now reads) (now writes)) objects jobs))
+        × (10 + jobs + 3 * count ≤ length (now buf)) ⌝ }
+    ensures { λ _. ⌜ now (buf .exit) ≡ laid (now (buf .entry)) 0
+        (tableOf processors jobs objects (now («processor_of» .entry)) (now (reads .entry)) (now (writes .entry))) ⌝ }
+{
+    let at = 8 + jobs as usize;
+    lay_header(buf, processors, jobs, objects);
+    lay_processors(buf, processor_of, jobs as usize);
+    lay_word(buf, at, count);
+    lay_entries(buf, at + 2, reads, writes, jobs, objects);
+}
