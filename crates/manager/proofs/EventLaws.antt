@@ -1,21 +1,20 @@
 -- What an event's rule comes to once its tests are known: laws of the definitions in specs/Events.antt, and of requests in range.
 -- Assumes nothing.
-use mathlib.Core.Path.{_≡_, refl, sym, ap, _∙_}
-use mathlib.Core.Logic.{_≢_, _⊎_, inl, inr}
-use mathlib.Core.Bool.{Bool, true, false}
+use mathlib.Core.Path.{_≡_, sym, ap, _∙_}
+use mathlib.Core.Logic.{_≢_, inl, inr}
+use mathlib.Core.Bool.{true, false}
 use mathlib.Core.List.{List}
-use Prim.Native.Nat.{ℕ, zero, suc, _≤_, _<_}
+use Prim.Native.Nat.{ℕ, _≤_}
 use native.Mathlib.Omega.{arith}
 use native.Mathlib.Decide.{ℕ-discrete, decLe}
-use lib.Dec.{eqb}
 use lib.ListN.{length}
 use borrow.Author.Tests.{eq-eqb, ne-eqb, ltb-false, le-leb, lt-leb}
 use Rattle.basics.specs.Choice.{inside-between}
 use Rattle.basics.specs.Arrays.{at, put, at-put-same, at-put-other, at-out, length-put}
 use Rattle.ranks.specs.Ranks.{limit}
 use Rattle.state.specs.declared.State.{State}
-use Rattle.state.specs.State.{mostObjects, objectIn, requestedMode, requestedObject, activate, await, grant}
-use Rattle.rule.specs.Keys.{Weigh, noKey, keyWeight, keyHolder, keyObject, lowestKeyBy}
+use Rattle.state.specs.State.{mostObjects, requestedMode, requestedObject, activate, await, grant}
+use Rattle.rule.specs.Keys.{Weigh, keyWeight, keyHolder, keyObject, lowestKeyBy}
 use Rattle.rule.specs.KeyLaws.{key-at}
 use Rattle.rule.specs.Granting.{passesBelow, reason, wakeable}
 use Rattle.manager.specs.declared.Answer.the-variants.{Granted, Waits, Done, Refused}

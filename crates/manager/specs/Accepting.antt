@@ -1,14 +1,13 @@
 -- What an event that is not refused may count on: its numbers are in range, and so are those of the waiting jobs' requests.
 -- Assumes nothing.
-use mathlib.Core.Path.{_≡_, refl}
+use mathlib.Core.Path.{_≡_}
 use mathlib.Core.Logic.{_≢_}
-use mathlib.Core.Bool.{Bool, true, false, not, _&&_, _||_}
+use mathlib.Core.Bool.{true, not, _&&_}
 use mathlib.Core.List.{List}
-use Prim.Native.Nat.{ℕ, suc, _≤_}
+use Prim.Native.Nat.{ℕ, _≤_}
 use native.Mathlib.Omega.{arith}
-use lib.Dec.{eqb}
 use borrow.Author.Tests.{ne-eqb, not-false}
-use Rattle.basics.specs.Choice.{if_then_else_, _if_else_, between, and-left, and-right, between-true, if-zero}
+use Rattle.basics.specs.Choice.{between, and-left, and-right, between-true, if-zero}
 use Rattle.basics.specs.Loops.{every-at}
 use Rattle.basics.specs.Arrays.{at}
 use Rattle.ranks.specs.Ranks.{limit}
@@ -73,7 +72,7 @@ pub record Asking (s : State) : Type 0 where
   pub jobs-fit : s .jobs ≤ limit
   pub objects-fit : s .objects ≤ mostObjects
 
-asking : (s : State) → wellFormed s ≡ true → Asking s
+pub asking : (s : State) → wellFormed s ≡ true → Asking s
 asking s w =
     let n = counts-within (s .processors) (s .jobs) (s .objects) (clauses s w .counts) in
     record { jobs-fit = n .jobs .1; objects-fit = n .objects .1 }

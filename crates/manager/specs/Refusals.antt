@@ -6,7 +6,7 @@ use lib.Dec.{eqb, ltb}
 use Rattle.basics.specs.Choice.{if_then_else_, _if_else_, between}
 use Rattle.state.specs.declared.State.{State}
 use Rattle.ranks.specs.Ranks.{member}
-use Rattle.state.specs.State.{read, write, ofMode, isRank, isObject, declared, holders, isActive, isWaiting}
+use Rattle.state.specs.State.{read, write, ofMode, isRank, declared, holders, isActive, isWaiting}
 use Rattle.state.specs.WellFormed.{wellFormed}
 
 -- kinds 2 read-lock and 3 write-lock ask for a lock
@@ -52,14 +52,23 @@ eventRefusal s k r o =
 unfoldable pub refusal : State → ℕ → ℕ → ℕ → ℕ
 refusal s k r o = 8 if not (wellFormed s) else eventRefusal s k r o
 
--- "The questions for a job's inherited rank and for its named lock .. use 8, 10, 13"
+-- "The questions for a job's inherited rank and for its named lock .. use 8, 10, 13": in a state that is well formed or not
+abbrev pub jobRefusalOf : Bool → ℕ → ℕ → ℕ → ℕ
+jobRefusalOf well jobs active r = 8 if not well else 10 if not (between 1 jobs r) else 13 if not (member active r) else 0
+
 unfoldable pub jobRefusal : State → ℕ → ℕ
-jobRefusal s r = 8 if not (wellFormed s) else 10 if not (isRank s r) else 13 if not (isActive s r) else 0
+jobRefusal s r = jobRefusalOf (wellFormed s) (s .jobs) (s .active) r
 
 -- "for an object's two ceilings 8, 11"
+abbrev pub objectRefusalOf : Bool → ℕ → ℕ → ℕ
+objectRefusalOf well objects o = 8 if not well else 11 if not (between 1 objects o) else 0
+
 unfoldable pub objectRefusal : State → ℕ → ℕ
-objectRefusal s o = 8 if not (wellFormed s) else 11 if not (isObject s o) else 0
+objectRefusal s o = objectRefusalOf (wellFormed s) (s .objects) o
 
 -- "for the rank a processor runs (0 if idle) 8, 19": "processor number not in the table"
+abbrev pub processorRefusalOf : Bool → ℕ → ℕ → ℕ
+processorRefusalOf well processors p = 8 if not well else 19 if not (ltb p processors) else 0
+
 unfoldable pub processorRefusal : State → ℕ → ℕ
-processorRefusal s p = 8 if not (wellFormed s) else 19 if not (ltb p (s .processors)) else 0
+processorRefusal s p = processorRefusalOf (wellFormed s) (s .processors) p

@@ -13,6 +13,7 @@ use ranks::RankSet;
 use state::JobProcessors;
 use state::JobRequests;
 use state::ObjectSets;
+use state::fits;
 
 // A job's inherited rank: the most urgent of its own and those of the waiting jobs that name it.
 pub fn ask_inherited_rank<'a>(
@@ -32,7 +33,7 @@ pub fn ask_inherited_rank<'a>(
     ensures { λ r. ⌜ r ≡ Q.inheritedRank (stateOf processors jobs objects (now («processor_of» .entry)) (now («may_read» .entry)) (now («may_write» .entry))
         active unlocked (now (readers .entry)) (now (writers .entry)) (now (request .entry))) rank ⌝ }
 {
-    let number = job_refusal(
+    let well = fits(
         processors,
         jobs,
         objects,
@@ -44,8 +45,8 @@ pub fn ask_inherited_rank<'a>(
         readers,
         writers,
         request,
-        rank,
     );
+    let number = job_refusal(well, jobs, active, rank);
     if number != 0 {
         return RankAnswer::Refused(number);
     }
@@ -79,7 +80,7 @@ pub fn ask_named_lock<'a>(
     ensures { λ r. ⌜ r ≡ Q.namedLock (stateOf processors jobs objects (now («processor_of» .entry)) (now («may_read» .entry)) (now («may_write» .entry))
         active unlocked (now (readers .entry)) (now (writers .entry)) (now (request .entry))) rank ⌝ }
 {
-    let number = job_refusal(
+    let well = fits(
         processors,
         jobs,
         objects,
@@ -91,8 +92,8 @@ pub fn ask_named_lock<'a>(
         readers,
         writers,
         request,
-        rank,
     );
+    let number = job_refusal(well, jobs, active, rank);
     if number != 0 {
         return NamedAnswer::Refused(number);
     }
@@ -129,7 +130,7 @@ pub fn ask_ceilings<'a>(
     ensures { λ r. ⌜ r ≡ Q.ceilings (stateOf processors jobs objects (now («processor_of» .entry)) (now («may_read» .entry)) (now («may_write» .entry))
         active unlocked (now (readers .entry)) (now (writers .entry)) (now (request .entry))) object ⌝ }
 {
-    let number = object_refusal(
+    let well = fits(
         processors,
         jobs,
         objects,
@@ -141,8 +142,8 @@ pub fn ask_ceilings<'a>(
         readers,
         writers,
         request,
-        object,
     );
+    let number = object_refusal(well, objects, object);
     if number != 0 {
         return CeilingsAnswer::Refused(number);
     }
@@ -172,7 +173,7 @@ pub fn ask_running<'a>(
     ensures { λ r. ⌜ r ≡ Q.running (stateOf processors jobs objects (now («processor_of» .entry)) (now («may_read» .entry)) (now («may_write» .entry))
         active unlocked (now (readers .entry)) (now (writers .entry)) (now (request .entry))) processor ⌝ }
 {
-    let number = processor_refusal(
+    let well = fits(
         processors,
         jobs,
         objects,
@@ -184,8 +185,8 @@ pub fn ask_running<'a>(
         readers,
         writers,
         request,
-        processor,
     );
+    let number = processor_refusal(well, processors, processor);
     if number != 0 {
         return RankAnswer::Refused(number);
     }

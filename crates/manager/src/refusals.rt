@@ -1,5 +1,6 @@
 // The refusals of events and questions, on the parts of a state. A refusal is its number, and 0 is none.
 ghost use mathlib.Core.Path.{_≡_};
+ghost use mathlib.Core.Bool.{true};
 ghost use mathlib.Core.List.{[]};
 ghost use Prim.Native.Nat.{_≤_};
 ghost use Rattle.basics.specs.Choice.{_if_else_};
@@ -169,37 +170,12 @@ pub fn refusal<'a>(
     )
 }
 
-// 8, 10 and 13, of a question for a job.
-pub fn job_refusal<'a>(
-    processors: u8,
-    jobs: u8,
-    objects: u8,
-    processor_of: &'a JobProcessors,
-    may_read: &'a ObjectSets,
-    may_write: &'a ObjectSets,
-    active: RankSet,
-    unlocked: RankSet,
-    readers: &'a ObjectSets,
-    writers: &'a ObjectSets,
-    request: &'a JobRequests,
-    rank: u8,
-) -> u8
-    ensures { λ r. ⌜ r ≡ R.jobRefusal (stateOf processors jobs objects (now («processor_of» .entry)) (now («may_read» .entry)) (now («may_write» .entry))
-        active unlocked (now (readers .entry)) (now (writers .entry)) (now (request .entry))) rank ⌝ }
+// 8, 10 and 13, of a question for a job in a state that is well formed or not.
+pub fn job_refusal(well: bool, jobs: u8, active: RankSet, rank: u8) -> u8
+    requires { ⌜ (well ≡ true → jobs ≤ 64) ⌝ }
+    ensures { λ r. ⌜ r ≡ R.jobRefusalOf well jobs active rank ⌝ }
 {
-    if !fits(
-        processors,
-        jobs,
-        objects,
-        processor_of,
-        may_read,
-        may_write,
-        active,
-        unlocked,
-        readers,
-        writers,
-        request,
-    ) {
+    if !well {
         return 8;
     }
     if !within(1, jobs, rank) {
@@ -211,80 +187,16 @@ pub fn job_refusal<'a>(
     0
 }
 
-// 8 and 11, of a question for an object.
-pub fn object_refusal<'a>(
-    processors: u8,
-    jobs: u8,
-    objects: u8,
-    processor_of: &'a JobProcessors,
-    may_read: &'a ObjectSets,
-    may_write: &'a ObjectSets,
-    active: RankSet,
-    unlocked: RankSet,
-    readers: &'a ObjectSets,
-    writers: &'a ObjectSets,
-    request: &'a JobRequests,
-    object: u8,
-) -> u8
-    ensures { λ r. ⌜ r ≡ R.objectRefusal (stateOf processors jobs objects (now («processor_of» .entry)) (now («may_read» .entry)) (now («may_write» .entry))
-        active unlocked (now (readers .entry)) (now (writers .entry)) (now (request .entry))) object ⌝ }
+// 8 and 11, of a question for an object in a state that is well formed or not.
+pub fn object_refusal(well: bool, objects: u8, object: u8) -> u8
+    ensures { λ r. ⌜ r ≡ R.objectRefusalOf well objects object ⌝ }
 {
-    if !fits(
-        processors,
-        jobs,
-        objects,
-        processor_of,
-        may_read,
-        may_write,
-        active,
-        unlocked,
-        readers,
-        writers,
-        request,
-    ) {
-        return 8;
-    }
-    if !within(1, objects, object) {
-        return 11;
-    }
-    0
+    refused_if(8, !well, refused_if(11, !within(1, objects, object), 0))
 }
 
-// 8 and 19, of a question for a processor.
-pub fn processor_refusal<'a>(
-    processors: u8,
-    jobs: u8,
-    objects: u8,
-    processor_of: &'a JobProcessors,
-    may_read: &'a ObjectSets,
-    may_write: &'a ObjectSets,
-    active: RankSet,
-    unlocked: RankSet,
-    readers: &'a ObjectSets,
-    writers: &'a ObjectSets,
-    request: &'a JobRequests,
-    processor: u8,
-) -> u8
-    ensures { λ r. ⌜ r ≡ R.processorRefusal (stateOf processors jobs objects (now («processor_of» .entry)) (now («may_read» .entry)) (now («may_write» .entry))
-        active unlocked (now (readers .entry)) (now (writers .entry)) (now (request .entry))) processor ⌝ }
+// 8 and 19, of a question for a processor in a state that is well formed or not.
+pub fn processor_refusal(well: bool, processors: u8, processor: u8) -> u8
+    ensures { λ r. ⌜ r ≡ R.processorRefusalOf well processors processor ⌝ }
 {
-    if !fits(
-        processors,
-        jobs,
-        objects,
-        processor_of,
-        may_read,
-        may_write,
-        active,
-        unlocked,
-        readers,
-        writers,
-        request,
-    ) {
-        return 8;
-    }
-    if processors <= processor {
-        return 19;
-    }
-    0
+    refused_if(8, !well, refused_if(19, !(processor < processors), 0))
 }

@@ -1,15 +1,15 @@
 -- The search for a waiting job after a release: who is woken, and that it keeps the facts and is a search as the theory asks.
 -- Assumes nothing.
 use mathlib.Core.Path.{_≡_, refl, sym, subst, ap, _∙_}
-use mathlib.Core.Logic.{_≢_, _⊎_, inl, inr}
-use mathlib.Core.Bool.{Bool, true, false, not, _&&_}
-use Prim.Native.Nat.{ℕ, zero, suc, _≤_, _<_}
+use mathlib.Core.Logic.{_≢_, inl, inr}
+use mathlib.Core.Bool.{Bool, true, false, _&&_}
+use Prim.Native.Nat.{ℕ, _≤_}
 use native.Mathlib.Omega.{arith}
 use native.Mathlib.Decide.{ℕ-discrete}
 use lib.Dec.{eqb}
 use borrow.Author.Tests.{eqb-false, ne-eqb, not-true}
-use Rattle.basics.specs.Choice.{if_then_else_, _orElse_}
-use Rattle.basics.specs.Loops.{firstNonzero, all-zero-first}
+use Rattle.basics.specs.Choice.{if_then_else_}
+use Rattle.basics.specs.Loops.{all-zero-first}
 use Rattle.state.specs.declared.State.{State}
 use Rattle.state.specs.State.{mostObjects, requestOf, isWaiting, requestedMode, requestedObject, objectIn, grant}
 use Rattle.state.specs.Facts.{RequestFacts, Facts}

@@ -1,6 +1,6 @@
 -- `manager::event` meets its contract: a refused event returns the state handed in; behind the refusals stands the rule of the kind, on copies.
 -- Assumes nothing.
-use mathlib.Core.Path.{_≡_, sym, ap, _∙_}
+use mathlib.Core.Path.{sym, ap, _∙_}
 use Prim.Native.Nat.{ℕ}
 use Rattle.manager.specs.declared.Answer.the-variants.{Refused}
 use Rattle.manager.specs.Accepting.{accepting}

@@ -1,8 +1,7 @@
 -- `manager::release_set` meets its contract: an object's element stands at its index.
 -- Assumes nothing.
-use mathlib.Core.Path.{_≡_, sym, ap, _∙_}
+use mathlib.Core.Path.{sym, ap, _∙_}
 use Prim.Native.Nat.{ℕ, _-_}
-use mathlib.Core.List.{List}
 use lib.ListN.{set}
 use Rattle.basics.specs.Arrays.{at-index, put-index, at}
 use Rattle.ranks.specs.Ranks.{without}

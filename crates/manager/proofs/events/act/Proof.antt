@@ -1,7 +1,7 @@
 -- `manager::act` meets its contract: a refused event leaves every part as it came; behind the refusals stands the rule of the kind.
 -- Assumes nothing.
 use denote.Ref.{now}
-use mathlib.Core.Path.{_≡_, sym, ap, _∙_}
+use mathlib.Core.Path.{sym, ap, _∙_}
 use Prim.Native.Nat.{ℕ}
 use Rattle.state.specs.declared.State.{State}
 use Rattle.state.specs.State.{stateOf}

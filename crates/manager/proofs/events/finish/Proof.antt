@@ -1,8 +1,7 @@
 -- `manager::finish` meets its contract: the parts that it changes are those of the state after the run's end, and that of the wake follows.
 -- Assumes nothing.
 use denote.Ref.{now}
-use mathlib.Core.Path.{_≡_, sym, subst, _∙_}
-use mathlib.Core.List.{List}
+use mathlib.Core.Path.{sym, subst, _∙_}
 use Rattle.state.specs.State.{stateOf, endRun}
 use Rattle.manager.specs.Accepting.{RequestsFit}
 use Rattle.manager.specs.Events as E

@@ -1,18 +1,15 @@
 -- `manager::lock` meets its contract: the lowest key decides; where it stops the request, it is a lock's, so its holder and object are in range.
 -- Assumes nothing.
 use denote.Ref.{now}
-use mathlib.Core.Path.{_≡_, sym, ap, ap₂, _∙_}
-use mathlib.Core.Bool.{true, false}
-use mathlib.Core.List.{List, []}
-use Prim.Native.Nat.{ℕ, _≤_}
+use mathlib.Core.Path.{_≡_, sym, ap, _∙_}
+use Prim.Native.Nat.{_≤_}
 use native.Mathlib.Omega.{arith}
 use Rattle.basics.specs.Arrays.{at}
 use Rattle.ranks.specs.Ranks.{limit}
-use Rattle.state.specs.declared.State.{State}
-use Rattle.state.specs.State.{mostObjects, stateOf, holders, declared, write, grant, await}
+use Rattle.state.specs.State.{mostObjects, stateOf, grant, await}
 use Rattle.rule.specs.Weights.{weight}
-use Rattle.rule.specs.Keys.{keyHolder, keyObject, lowestKey}
-use Rattle.rule.specs.Granting.{passesBelow, reason, reasonOf}
+use Rattle.rule.specs.Keys.{keyHolder, keyObject}
+use Rattle.rule.specs.Granting.{reason, reasonOf}
 use Rattle.rule.specs.Parts.{locksState, lowest-key-parts, reason-parts}
 use Rattle.manager.specs.declared.Answer.the-variants.{Granted, Waits}
 use Rattle.manager.specs.Events.{outcome, requestMeeting}

@@ -1,10 +1,9 @@
 -- `manager::perform` meets its contract: each arm is the rule of its kind; an accepted kind is one of the six.
 -- Assumes nothing.
 use denote.Ref.{now}
-use mathlib.Core.Path.{_≡_, sym, ap, _∙_}
-use Prim.Native.Nat.{ℕ, _≤_, _<_}
+use mathlib.Core.Path.{_≡_, sym, _∙_}
+use Prim.Native.Nat.{_≤_}
 use Rattle.basics.specs.Choice.{inside-between}
-use Rattle.state.specs.declared.State.{State}
 use Rattle.state.specs.State.{stateOf, activate}
 use Rattle.manager.specs.Events.{outcome}
 use Rattle.manager.proofs.EventLaws as L

@@ -1,7 +1,7 @@
 -- `manager::unlock` meets its contract: the parts that it changes are those of the state after the release, and that of the wake follows.
 -- Assumes nothing.
 use denote.Ref.{now}
-use mathlib.Core.Path.{_≡_, _∙_}
+use mathlib.Core.Path.{_∙_}
 use Rattle.state.specs.State.{stateOf, release}
 use Rattle.manager.specs.Events as E
 use borrow.Author.Needs.{needs}

@@ -2,15 +2,11 @@
 -- Assumes nothing.
 use denote.Ref.{now}
 use mathlib.Core.Path.{_≡_, sym, ap, subst, _∙_}
-use mathlib.Core.Logic.{_≢_}
 use Prim.Native.Nat.{ℕ, _-_, _≤_}
 use native.Mathlib.Omega.{arith}
 use lib.ListN.{getD}
-use mir.Val.{Fits}
-use mir.Syntax.{w16}
 use Rattle.basics.specs.Arrays.{at, at-index}
 use Rattle.ranks.specs.Ranks.{limit}
-use Rattle.state.specs.declared.State.{State}
 use Rattle.state.specs.State.{mostObjects, stateOf, modeIn, objectIn, grant}
 use Rattle.rule.specs.Granting.{wakeable}
 use Rattle.rule.specs.Parts.{waitsState, wakeable-parts}

@@ -1,6 +1,6 @@
 -- `manager::object_allowed` meets its contract: the test is that of the definition.
 -- Assumes nothing.
-use mathlib.Core.Path.{_≡_, sym, ap, _∙_}
+use mathlib.Core.Path.{sym, ap, _∙_}
 use mathlib.Core.Bool.{Bool}
 use lib.Dec.{eqb}
 use Rattle.basics.specs.Choice.{if_then_else_, between}

@@ -1,42 +1,17 @@
--- `manager::processor_refusal` meets its contract: each test leaves with its number, in the paper's order.
+-- `manager::processor_refusal` meets its contract, by those of its calls.
 -- Assumes nothing.
-use borrow.Author.Tests.{le-ltb, lt-ltb}
-use denote.Ref.{now}
-use mathlib.Core.Path.{_≡_, sym, _∙_}
-use mathlib.Core.Bool.{true, false, not}
-use borrow.Author.Tests.{not-true, not-false}
-use Rattle.basics.specs.Choice.{_if_else_, between, between-true}
-use Rattle.state.specs.declared.State.{State}
-use Rattle.state.specs.State.{stateOf}
-use Rattle.state.specs.WellFormed.{wellFormed}
-use Rattle.manager.specs.Refusals.{processorRefusal}
 use borrow.Author.Needs.{needs}
 use Rattle.manager.proofs.refusals.processor_refusal.Statement.{statement}
 use Rattle.manager.proofs.refusals.processor_refusal.Tie as tie
 
--- the state that the parts are of
-abbrev whole : (c : tie.Start) → State
-whole c = let a = c .args in
-    stateOf (a .processors) (a .jobs) (a .objects) (now (a .processor-of)) (now (a .may-read)) (now (a .may-write))
-    (a .active) (a .unlocked) (now (a .readers)) (now (a .writers)) (now (a .request))
+refused-if-requires : tie.Need-refused-if-requires
+refused-if-requires c κs = search needs
 
-well : (c : tie.Else1) → wellFormed (whole (c .before .before)) ≡ true
-well c = sym (c .before .fits2 .ensures) ∙ not-false (c .before .fits2 .result) (c .if1 .left)
-
-fits-requires : tie.Need-fits-requires
-fits-requires c κs = search needs
+refused-if-requires-2 : tie.Need-refused-if-requires-2
+refused-if-requires-2 c κs = search needs
 
 returns : tie.Need-returns
-unfolding processorRefusal
-returns c = sym (simp (sym (c .before .fits2 .ensures) ∙ not-true (c .before .fits2 .result) (c .if1 .taken)))
-
-returns-2 : tie.Need-returns-2
-unfolding processorRefusal
-returns-2 c = sym (simp (well ((c .before)), le-ltb (c .before .before .before .args .processor) (c .before .before .before .args .processors) (c .if2 .taken)))
-
-returns-3 : tie.Need-returns-3
-unfolding processorRefusal
-returns-3 c = sym (simp (well ((c .before)), lt-ltb (c .before .before .before .args .processor) (c .before .before .before .args .processors) (c .if2 .left)))
+returns c = cc
 
 pub processor-refusal-spec : {M : Type 1} → statement M
-processor-refusal-spec = tie.close (tie.spec fits-requires returns returns-2 returns-3)
+processor-refusal-spec = tie.close (tie.spec refused-if-requires refused-if-requires-2 returns)
