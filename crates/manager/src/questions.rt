@@ -106,10 +106,9 @@ pub fn ask_named_lock<'a>(
         request[(rank - 1) as usize],
         rank,
     );
-    NamedAnswer::Lock {
-        holder: rule::key_holder(key),
-        object: rule::key_object(key),
-    }
+    let holder = rule::key_holder(key);
+    let object = rule::key_object(key);
+    NamedAnswer::Lock { holder, object }
 }
 
 // An object's write ceiling and absolute ceiling.
