@@ -1,6 +1,7 @@
 // The lock manager: events and questions on a state.
 ghost use mathlib.Core.Path.{_≡_};
-ghost use Rattle.manager.specs.Events.{step};
+ghost use Rattle.manager.specs.Refusals as R;
+ghost use Rattle.manager.specs.Events.{accepted, step};
 ghost use Rattle.manager.specs.Questions as Q;
 
 mod changes;
@@ -49,6 +50,42 @@ pub enum CeilingsAnswer {
     Refused(u8),
 }
 
+// The answer and the next state of an event that is not refused: the rules run on copies of the parts that they change.
+fn performed(state: State, kind: u8, rank: u8, object: u8) -> Outcome
+    requires { ⌜ R.refusal state kind rank object ≡ 0 ⌝ }
+    ensures { λ r. ⌜ r ≡ accepted state kind rank object ⌝ }
+{
+    let mut active = state.active;
+    let mut unlocked = state.unlocked;
+    let mut readers = state.readers;
+    let mut writers = state.writers;
+    let mut request = state.request;
+    let answer = perform(
+        state.jobs,
+        state.objects,
+        &state.may_read,
+        &state.may_write,
+        &mut active,
+        &mut unlocked,
+        &mut readers,
+        &mut writers,
+        &mut request,
+        kind,
+        rank,
+        object,
+    );
+    let mut next = state;
+    next.active = active;
+    next.unlocked = unlocked;
+    next.readers = readers;
+    next.writers = writers;
+    next.request = request;
+    Outcome {
+        answer,
+        state: next,
+    }
+}
+
 // An event: its answer and the next state; a refusal returns the state handed in.
 pub fn event(state: State, kind: u8, rank: u8, object: u8) -> Outcome
     ensures { λ r. ⌜ r ≡ step state kind rank object ⌝ }
@@ -75,44 +112,7 @@ pub fn event(state: State, kind: u8, rank: u8, object: u8) -> Outcome
             state,
         };
     }
-    let mut active = state.active;
-    let mut unlocked = state.unlocked;
-    let mut readers = state.readers;
-    let mut writers = state.writers;
-    let mut request = state.request;
-    let answer = perform(
-        state.jobs,
-        state.objects,
-        &state.may_read,
-        &state.may_write,
-        &mut active,
-        &mut unlocked,
-        &mut readers,
-        &mut writers,
-        &mut request,
-        kind,
-        rank,
-        object,
-    );
-    let processor_of = state.processor_of;
-    let may_read = state.may_read;
-    let may_write = state.may_write;
-    Outcome {
-        answer,
-        state: State {
-            processors: state.processors,
-            jobs: state.jobs,
-            objects: state.objects,
-            processor_of,
-            may_read,
-            may_write,
-            active,
-            unlocked,
-            readers,
-            writers,
-            request,
-        },
-    }
+    performed(state, kind, rank, object)
 }
 
 // A job's inherited rank. Refused by 8, 10, 13.

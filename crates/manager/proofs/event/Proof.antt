@@ -1,9 +1,8 @@
--- `manager::event` meets its contract: a refused event returns the state handed in; behind the refusals stands the rule of the kind, on copies.
+-- `manager::event` meets its contract: a refused event returns the state handed in; behind the refusals stands the rule of the kind.
 -- Assumes nothing.
 use mathlib.Core.Path.{sym, ap, _∙_}
 use Prim.Native.Nat.{ℕ}
 use Rattle.manager.specs.declared.Answer.the-variants.{Refused}
-use Rattle.manager.specs.Accepting.{accepting}
 use Rattle.manager.specs.Events.{outcome}
 use Rattle.manager.proofs.EventLaws.{step-refused, step-accepted}
 use borrow.Author.Needs.{needs}
@@ -19,14 +18,13 @@ returns c =
     ap (λ (n : ℕ). outcome (Refused n) (a .t1)) (c .before .refusal .ensures)
     ∙ sym (step-refused (a .t1) (a .kind) (a .rank) (a .object) (λ e. c .if1 .taken (c .before .refusal .ensures ∙ e)))
 
-perform-requires : tie.Need-perform-requires
-perform-requires c κs = let a = c .before .before .before .before .before .before .before .before .before .before .before .before .before .before .before .before .before .before .before .before .args in accepting (a .t1) (a .kind) (a .rank) (a .object) (sym (c .before .before .before .before .before .before .before .before .before .before .before .before .refusal .ensures) ∙ c .before .before .before .before .before .before .before .before .before .before .before .if1 .left)
+performed-requires : tie.Need-performed-requires
+performed-requires c κs = sym (c .before .refusal .ensures) ∙ c .if1 .left
 
 returns-2 : tie.Need-returns-2
 returns-2 c =
-    let a = c .before .before .before .before .before .before .before .before .before .before .before .before .before .before .before .before .before .before .before .before .before .before .before .before .args in
-    c .before .before .before .perform .ensures (a .t1 .processors) (a .t1 .«processor_of»)
-    ∙ sym (step-accepted (a .t1) (a .kind) (a .rank) (a .object) (sym (c .before .before .before .before .before .before .before .before .before .before .before .before .before .before .before .before .refusal .ensures) ∙ c .before .before .before .before .before .before .before .before .before .before .before .before .before .before .before .if1 .left))
+    let a = c .before .before .before .before .before .before .before .before .before .before .args in
+    c .performed .ensures ∙ sym (step-accepted (a .t1) (a .kind) (a .rank) (a .object) (sym (c .before .before .refusal .ensures) ∙ c .before .if1 .left))
 
 pub event-spec : {M : Type 1} → statement M
-event-spec = tie.close (tie.spec refusal-requires returns perform-requires returns-2)
+event-spec = tie.close (tie.spec refusal-requires returns performed-requires returns-2)
