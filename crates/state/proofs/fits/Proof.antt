@@ -42,7 +42,7 @@ up-to-requires : tie.Need-up-to-requires
 up-to-requires c κs = limits c .jobs .1
 
 survey-objects-requires : tie.Need-survey-objects-requires
-survey-objects-requires c κs = search needs
+survey-objects-requires c κs = limits (c .before) .objects .1
 
 is-subset-requires : tie.Need-is-subset-requires
 is-subset-requires c κs = search needs

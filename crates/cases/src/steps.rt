@@ -1,0 +1,158 @@
+// The steps of a case: events, calls on the table, questions, and changes that make a state that no events reach.
+use crate::print::say;
+use crate::print::say_answer;
+use crate::print::say_bytes;
+use crate::print::say_ceilings;
+use crate::print::say_named;
+use crate::print::say_number;
+use crate::print::say_rank;
+use crate::print::say_ranks;
+use crate::print::say_refused;
+use crate::text::number_of;
+use state::State;
+use table_writer::Written;
+
+// The kind of event that the letter stands for: S R W U F A, and 7 for others.
+fn kind_of(letter: u8) -> u8 {
+    match letter {
+        b'S' => 1,
+        b'R' => 2,
+        b'W' => 3,
+        b'U' => 4,
+        b'F' => 5,
+        b'A' => 6,
+        _ => 7,
+    }
+}
+
+// An event: writes its answer, returns the next state.
+fn play(state: State, letter: u8, rank: u8, object: u8) -> State {
+    let outcome = manager::event(state, kind_of(letter), rank, object);
+    let answer = outcome.answer;
+    say_answer(answer);
+    outcome.state
+}
+
+// T: writes how many bytes of the table the reader used, or its refusal.
+fn read_table(bytes: &[u8]) {
+    let read = table::read_table(bytes);
+    if read.refusal == 0 {
+        say(b" accepted, bytes ", read.used as u64);
+    } else {
+        say_refused(read.refusal);
+    }
+}
+
+// E: writes the part of the table bytes that holds the job's entries, or the refusal.
+fn read_entries(bytes: &[u8], rank: u8) {
+    let mut number = 0;
+    let part = table::job_entries(bytes, rank, &mut number);
+    if number != 0 {
+        say_refused(number);
+    }
+    say_bytes(part);
+}
+
+// L: lends the writer a buffer of 12 sevens; writes its answer and the buffer after it.
+fn write_table(state: State) {
+    let mut buffer = [7; 12];
+    match table_writer::write_table(state, &mut buffer) {
+        Written::Length(length) => say(b" length ", length as u64),
+        Written::Refused(number) => say_refused(number),
+    }
+    io::write_all(1, b", buffer");
+    say_bytes(&buffer);
+}
+
+// A question: n for the lock that the job names, i for its inherited rank, p for the rank that the processor runs, c for the object's ceilings.
+fn ask(state: State, letter: u8, rank: u8, object: u8) {
+    match letter {
+        b'n' => say_named(manager::named_lock(state, rank)),
+        b'i' => say_rank(manager::inherited_rank(state, rank)),
+        b'p' => say_rank(manager::running(state, rank)),
+        _ => say_ceilings(manager::ceilings(state, object)),
+    }
+}
+
+// h: writes who holds object 1 to read it, and who to write it.
+fn show_holders(state: State) {
+    io::write_all(1, b" readers");
+    say_ranks(state.readers[0]);
+    io::write_all(1, b", writers");
+    say_ranks(state.writers[0]);
+}
+
+// The request of a job that waits for the object: q to read it, else to write it.
+fn request_of(letter: u8, object: u8) -> u16 {
+    if letter == b'q' {
+        256 + object as u16
+    } else {
+        512 + object as u16
+    }
+}
+
+// A change: + makes the job active, r gives it a read lock on the object, q and v have it wait to read and to write the object.
+fn change(state: State, letter: u8, rank: u8, object: u8) -> State {
+    let mut next = state;
+    if rank == 0 {
+        return next;
+    }
+    if rank > 64 {
+        return next;
+    }
+    if letter == b'+' {
+        next.active = ranks::with(next.active, rank);
+        return next;
+    }
+    if object == 0 {
+        return next;
+    }
+    if object > 128 {
+        return next;
+    }
+    let i = (object - 1) as usize;
+    if letter == b'r' {
+        next.readers[i] = ranks::with(next.readers[i], rank);
+    } else {
+        next.request[(rank - 1) as usize] = request_of(letter, object);
+    }
+    next
+}
+
+// One step: writes it in brackets, then what came out; returns the next state.
+fn run_step(bytes: &[u8], state: State, letter: u8, rank: u8, object: u8) -> State {
+    let letters = [letter];
+    io::write_all(1, b" [");
+    io::write_all(1, &letters);
+    say_number(rank);
+    say_number(object);
+    io::write_all(1, b"]");
+    match letter {
+        b'T' => read_table(bytes),
+        b'E' => read_entries(bytes, rank),
+        b'L' => write_table(state),
+        b'h' => show_holders(state),
+        b'n' | b'i' | b'p' | b'c' => ask(state, letter, rank, object),
+        b'+' | b'r' | b'q' | b'v' => return change(state, letter, rank, object),
+        _ => return play(state, letter, rank, object),
+    }
+    state
+}
+
+// Runs the steps from the table's fresh state, each over the state that the one before it returned. A step is four characters:
+// a space, its letter, a rank and an object.
+pub fn run_steps(bytes: &[u8], steps: &[u8]) {
+    let read = table::read_table(bytes);
+    let mut state = read.state;
+    let mut rest = steps;
+    while rest.len() >= 4 {
+        state = run_step(
+            bytes,
+            state,
+            rest[1],
+            number_of(rest[2]),
+            number_of(rest[3]),
+        );
+        rest = &rest[4..];
+    }
+}

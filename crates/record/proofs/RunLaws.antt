@@ -1,0 +1,97 @@
+-- A run over the events in some bytes, partway: what is laid so far, and what is left.
+-- Assumes nothing.
+use Prim.Native.Nat.{ℕ, suc, _+_, _-_, _*_, _≤_, _<_}
+use mathlib.Core.Path.{_≡_, refl, sym, ap, ap₂, _∙_}
+use mathlib.Core.List.{List, [], _∷_, _++_, append-assoc, append-nil}
+use native.Mathlib.Numerals.{add-one}
+use native.Mathlib.Omega.{arith}
+use lib.ListN.{length, drop, getD, length-drop}
+use lib.Seq.{sets, length-sets, drop-cons}
+use Rattle.state.specs.declared.State.{State}
+use Rattle.manager.specs.Events.{step}
+use Rattle.record.specs.Lines.{eventLine}
+use Rattle.record.specs.LineLaws.{Laid, laid-then, laid-is}
+use Rattle.record.specs.Record.{eventLines, stateAfter}
+use Rattle.record.specs.RecordLaws.{event-lines-more, state-after-more, event-lines-none, state-after-none}
+
+-- the events up to index `place` are answered: the lines of them all are those laid so far and then those of what is left
+pub record Run (bytes : List ℕ) (s₀ s : State) (n₀ n : ℕ) (buf₀ buf : List ℕ) (place end : ℕ) : Type 0 where
+  pub inside : place ≤ length bytes
+  pub numbers : n ≤ n₀ + place
+  pub text : List ℕ
+  pub laid : Laid buf₀ buf 0 end (15 * place) text
+  pub lines : eventLines s₀ n₀ bytes ≡ text ++ eventLines s n (drop place bytes)
+  pub after : stateAfter s₀ bytes ≡ stateAfter s (drop place bytes)
+  pub size : length buf ≡ length buf₀
+
+pub run-start : (bytes : List ℕ) (s : State) (n : ℕ) (buf : List ℕ) → Run bytes s s n n buf buf 0 0
+run-start bytes s n buf =
+    record {
+      inside = omega arith;
+      numbers = omega arith;
+      text = [];
+      laid = record { stored = refl; stops = refl; within = omega arith };
+      lines = refl;
+      after = refl;
+      size = refl;
+    }
+
+-- the three bytes of the next event, and the rest
+next-event : (bytes : List ℕ) (place : ℕ) → place + 3 ≤ length bytes
+    → drop place bytes ≡ getD bytes place 0 ∷ getD bytes (place + 1) 0 ∷ getD bytes (place + 2) 0 ∷ drop (place + 3) bytes
+next-event bytes place h =
+    let one : suc place ≡ place + 1 = omega arith in
+    let two : suc (place + 1) ≡ place + 2 = omega arith in
+    let three : suc (place + 2) ≡ place + 3 = omega arith in
+    drop-cons bytes place 0 (omega arith)
+    ∙ ap (λ (k : ℕ). getD bytes place 0 ∷ drop k bytes) one
+    ∙ ap (λ (l : List ℕ). getD bytes place 0 ∷ l)
+    (drop-cons bytes (place + 1) 0 (omega arith) ∙ ap (λ (k : ℕ). getD bytes (place + 1) 0 ∷ drop k bytes) two)
+    ∙ ap (λ (l : List ℕ). getD bytes place 0 ∷ getD bytes (place + 1) 0 ∷ l)
+    (drop-cons bytes (place + 2) 0 (omega arith) ∙ ap (λ (k : ℕ). getD bytes (place + 2) 0 ∷ drop k bytes) three)
+
+-- a turn: one event more
+module _ (bytes : List ℕ) (s₀ s : State) (n₀ n : ℕ) (buf₀ buf : List ℕ) (place end : ℕ) (r : Run bytes s₀ s n₀ n buf₀ buf place end) (h : place + 3 ≤ length bytes) where
+  abbrev kind : ℕ
+  kind = getD bytes place 0
+
+  abbrev rank : ℕ
+  rank = getD bytes (place + 1) 0
+
+  abbrev object : ℕ
+  object = getD bytes (place + 2) 0
+
+  pub run-turn : (s′ : State) (buf′ : List ℕ) (end′ : ℕ) → s′ ≡ step s kind rank object .state
+      → Laid buf buf′ end end′ 45 (eventLine (n + 1) kind rank object (step s kind rank object .answer))
+      → Run bytes s₀ s′ n₀ (n + 1) buf₀ buf′ (place + 3) end′
+  run-turn s′ buf′ end′ e l =
+      let line : List ℕ = eventLine (n + 1) kind rank object (step s kind rank object .answer) in
+      let rest : List ℕ = drop (place + 3) bytes in
+      let p = r .inside in
+      let q = r .numbers in
+      record {
+        inside = h;
+        numbers = omega arith;
+        text = r .text ++ line;
+        laid = laid-is (laid-then (r .laid) l) refl (omega arith);
+        lines =
+            r .lines
+            ∙ ap (λ (k : List ℕ). r .text ++ eventLines s n k) (next-event bytes place h)
+            ∙ ap (λ (k : List ℕ). r .text ++ k) (event-lines-more s n kind rank object rest
+            ∙ ap₂ (λ (m : ℕ) (t : State). eventLine m kind rank object (step s kind rank object .answer) ++ eventLines t m rest) (sym (add-one n)) (sym e))
+            ∙ sym (append-assoc (r .text) line (eventLines s′ (n + 1) rest));
+        after =
+            r .after ∙ ap (stateAfter s) (next-event bytes place h) ∙ state-after-more s kind rank object rest ∙ ap (λ (t : State). stateAfter t rest) (sym e);
+        size = ap length (l .stored) ∙ length-sets buf end line ∙ r .size;
+      }
+
+-- fewer than three bytes are left: the lines of them all are laid
+pub run-end : (bytes : List ℕ) (s₀ s : State) (n₀ n : ℕ) (buf₀ buf : List ℕ) (place end : ℕ) → Run bytes s₀ s n₀ n buf₀ buf place end → length bytes < place + 3
+    → (s ≡ stateAfter s₀ bytes) × Laid buf₀ buf 0 end (15 * length bytes) (eventLines s₀ n₀ bytes)
+run-end bytes s₀ s n₀ n buf₀ buf place end r h =
+    let p = r .inside in
+    let few : length (drop place bytes) < 3 = omega (arith, length-drop place bytes) in
+    (
+      sym (r .after ∙ state-after-none s (drop place bytes) few),
+      laid-is (r .laid) (sym (r .lines ∙ ap (λ (k : List ℕ). r .text ++ k) (event-lines-none s n (drop place bytes) few) ∙ append-nil (r .text))) (omega arith),
+    )

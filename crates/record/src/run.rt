@@ -1,0 +1,113 @@
+// Events taken from bytes and answered one after the other, their lines laid one behind the other.
+ghost use mathlib.Core.Path.{_≡_};
+ghost use Prim.Native.Nat.{_+_, _*_, _^_, _≤_, _<_};
+ghost use lib.ListN.{length};
+ghost use Rattle.state.specs.State.{stateOf};
+ghost use Rattle.manager.specs.Events.{step};
+ghost use Rattle.record.specs.Lines.{eventLine};
+ghost use Rattle.record.specs.LineLaws.{Laid};
+ghost use Rattle.record.specs.Record.{eventLines, stateAfter};
+use crate::lay::lay_event;
+use ranks::RankSet;
+use state::JobProcessors;
+use state::JobRequests;
+use state::ObjectSets;
+
+// An event on the parts of a state, in place, and its line laid at the index; answers the index behind it.
+fn lay_answered<'a>(
+    processors: u8,
+    jobs: u8,
+    objects: u8,
+    processor_of: &'a JobProcessors,
+    may_read: &'a ObjectSets,
+    may_write: &'a ObjectSets,
+    active: &mut RankSet,
+    unlocked: &mut RankSet,
+    readers: &mut ObjectSets,
+    writers: &mut ObjectSets,
+    request: &mut JobRequests,
+    buf: &mut [u8],
+    at: usize,
+    number: u64,
+    kind: u8,
+    rank: u8,
+    object: u8,
+) -> usize
+    requires { ⌜ at + 45 ≤ length (now buf) ⌝ }
+    ensures { λ r. ⌜ (stateOf processors jobs objects (now («processor_of» .entry)) (now («may_read» .entry)) (now («may_write» .entry)) (now (active .exit)) (now (unlocked .exit)) (now (readers .exit)) (now (writers .exit)) (now (request .exit))
+        ≡ step (stateOf processors jobs objects (now («processor_of» .entry)) (now («may_read» .entry)) (now («may_write» .entry)) (now (active .entry)) (now (unlocked .entry)) (now (readers .entry)) (now (writers .entry)) (now (request .entry))) kind rank object .state)
+        × Laid (now (buf .entry)) (now (buf .exit)) at r 45 (eventLine number kind rank object
+        (step (stateOf processors jobs objects (now («processor_of» .entry)) (now («may_read» .entry)) (now («may_write» .entry)) (now (active .entry)) (now (unlocked .entry)) (now (readers .entry)) (now (writers .entry)) (now (request .entry))) kind rank object .answer)) ⌝ }
+{
+    let answer = manager::act(
+        processors,
+        jobs,
+        objects,
+        processor_of,
+        may_read,
+        may_write,
+        active,
+        unlocked,
+        readers,
+        writers,
+        request,
+        kind,
+        rank,
+        object,
+    );
+    lay_event(buf, at, number, kind, rank, object, answer)
+}
+
+// The events in the bytes, with so many before them, on the parts of a state, in place; one or two bytes left over are not looked at.
+// Their lines are laid at the front of the buffer; answers the lines' length.
+pub fn lay_events<'a>(
+    processors: u8,
+    jobs: u8,
+    objects: u8,
+    processor_of: &'a JobProcessors,
+    may_read: &'a ObjectSets,
+    may_write: &'a ObjectSets,
+    active: &mut RankSet,
+    unlocked: &mut RankSet,
+    readers: &mut ObjectSets,
+    writers: &mut ObjectSets,
+    request: &mut JobRequests,
+    buf: &mut [u8],
+    events: u64,
+    bytes: &[u8],
+) -> usize
+    requires { ⌜ (15 * length (now bytes) ≤ length (now buf)) × (events + length (now bytes) < 2 ^ 64) ⌝ }
+    ensures { λ r. ⌜ (stateOf processors jobs objects (now («processor_of» .entry)) (now («may_read» .entry)) (now («may_write» .entry)) (now (active .exit)) (now (unlocked .exit)) (now (readers .exit)) (now (writers .exit)) (now (request .exit))
+        ≡ stateAfter (stateOf processors jobs objects (now («processor_of» .entry)) (now («may_read» .entry)) (now («may_write» .entry)) (now (active .entry)) (now (unlocked .entry)) (now (readers .entry)) (now (writers .entry)) (now (request .entry))) (now (bytes .entry)))
+        × Laid (now (buf .entry)) (now (buf .exit)) 0 r (15 * length (now (bytes .entry)))
+        (eventLines (stateOf processors jobs objects (now («processor_of» .entry)) (now («may_read» .entry)) (now («may_write» .entry)) (now (active .entry)) (now (unlocked .entry)) (now (readers .entry)) (now (writers .entry)) (now (request .entry))) events (now (bytes .entry))) ⌝ }
+{
+    let mut at = 0;
+    let mut end = 0;
+    let mut number = events;
+    while bytes.len() - at >= 3 {
+        number += 1;
+        end = lay_answered(
+            processors,
+            jobs,
+            objects,
+            processor_of,
+            may_read,
+            may_write,
+            active,
+            unlocked,
+            readers,
+            writers,
+            request,
+            buf,
+            end,
+            number,
+            bytes[at],
+            bytes[at + 1],
+            bytes[at + 2],
+        );
+        at += 3;
+    }
+    end
+}
+// x

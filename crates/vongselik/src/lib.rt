@@ -1,0 +1,60 @@
+// The lock manager for C: events, questions and tables on the parts of a state of the caller's, each lent by itself.
+ghost use mathlib.Core.Path.{_≡_};
+ghost use Rattle.state.specs.State.{stateOf};
+ghost use Rattle.manager.specs.Events.{step};
+ghost use Rattle.vongselik.specs.Packing.{packed};
+
+mod entries;
+mod packing;
+mod questions;
+mod tables;
+
+use packing::pack;
+use ranks::RankSet;
+use state::JobProcessors;
+use state::JobRequests;
+use state::ObjectSets;
+
+// An event: its answer packed into a number, and the parts of the next state. A refusal, by 8 to 18, leaves every part as it was.
+#[no_mangle]
+pub extern "C" fn vongselik_parts_event<'a>(
+    processors: u8,
+    jobs: u8,
+    objects: u8,
+    processor_of: &'a JobProcessors,
+    may_read: &'a ObjectSets,
+    may_write: &'a ObjectSets,
+    active: &mut RankSet,
+    unlocked: &mut RankSet,
+    readers: &mut ObjectSets,
+    writers: &mut ObjectSets,
+    request: &mut JobRequests,
+    kind: u8,
+    rank: u8,
+    object: u8,
+) -> u32
+    ensures answer { λ r. ⌜ r ≡ packed (step (stateOf processors jobs objects (now («processor_of» .entry)) (now («may_read» .entry)) (now («may_write» .entry))
+        (now (active .entry)) (now (unlocked .entry)) (now (readers .entry)) (now (writers .entry)) (now (request .entry))) kind rank object .answer) ⌝ }
+    ensures next { λ _. ⌜ stateOf processors jobs objects (now («processor_of» .entry)) (now («may_read» .entry)) (now («may_write» .entry))
+        (now (active .exit)) (now (unlocked .exit)) (now (readers .exit)) (now (writers .exit)) (now (request .exit))
+        ≡ step (stateOf processors jobs objects (now («processor_of» .entry)) (now («may_read» .entry)) (now («may_write» .entry))
+        (now (active .entry)) (now (unlocked .entry)) (now (readers .entry)) (now (writers .entry)) (now (request .entry))) kind rank object .state ⌝ }
+{
+    let answer = manager::act(
+        processors,
+        jobs,
+        objects,
+        processor_of,
+        may_read,
+        may_write,
+        active,
+        unlocked,
+        readers,
+        writers,
+        request,
+        kind,
+        rank,
+        object,
+    );
+    pack(answer)
+}

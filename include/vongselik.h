@@ -1,0 +1,265 @@
+/* Vongselik, the sorter's lock manager, for C99 and C++: link with libvongselik.a.
+ *
+ * A table says which jobs there are, on which processors, and what each may read and write. A state is a table with its locks and waiting jobs.
+ * The caller keeps the state in a struct, sends events to it, and asks questions about it. A job is its rank: 1 is the most urgent. Ranks and
+ * objects count from 1, processors from 0.
+ *
+ * Every call may be given any contents of the struct, any bytes and any numbers: it answers, or refuses by a number from 1 to 20 (below).
+ * A call that refuses leaves every byte that was lent to it as it was. No call allocates, blocks, ends the program or keeps anything between calls,
+ * so that two threads may work on two states. Reading a table takes about 6 KB of stack and writing one about 14 KB, an event or a question less than 1 KB.
+ * Of the C library only memcpy and memset are needed.
+ *
+ * What the caller still owes: each pointer points to an object of its type (a buffer: to at least as many bytes as its length says, at most PTRDIFF_MAX),
+ * aligned as C aligns it; the objects lent to one call do not overlap; and no other thread writes them during the call.
+ * Bytes or a buffer of length 0 may be lent as a null pointer. */
+#ifndef VONGSELIK_H
+#define VONGSELIK_H
+
+#include <stddef.h>
+#include <stdint.h>
+
+#ifdef __cplusplus
+extern "C" {
+#endif
+
+/* ---- Limits */
+
+#define VONGSELIK_MOST_JOBS 64
+#define VONGSELIK_MOST_OBJECTS 128
+#define VONGSELIK_MOST_PROCESSORS 8
+
+/* A ceiling of an object that nobody may lock. */
+#define VONGSELIK_NOBODY 65
+
+/* A buffer of this length is long enough for every table that vongselik_write_table writes. */
+#define VONGSELIK_LONGEST_TABLE (10 + VONGSELIK_MOST_JOBS + 3 * VONGSELIK_MOST_JOBS * VONGSELIK_MOST_OBJECTS)
+
+/* ---- The state */
+
+/* A table and its locks. In a set of ranks, rank r is bit r - 1. All is filled in by vongselik_read_table, and changed by vongselik_event. */
+typedef struct vongselik_state {
+    uint8_t processors;                                /* 1 to 8 */
+    uint8_t jobs;                                      /* 1 to 64: the ranks are 1 to jobs */
+    uint8_t objects;                                   /* 1 to 128: the objects are 1 to objects */
+    uint8_t processor_of[VONGSELIK_MOST_JOBS];         /* by rank - 1 */
+    uint64_t may_read[VONGSELIK_MOST_OBJECTS];         /* by object - 1: the ranks that are declared to read it */
+    uint64_t may_write[VONGSELIK_MOST_OBJECTS];        /* by object - 1: the ranks that are declared to write it */
+    uint64_t active;                                   /* the ranks of active jobs */
+    uint64_t unlocked;                                 /* the ranks of jobs that have unlocked in this run, and may not lock any more */
+    uint64_t readers[VONGSELIK_MOST_OBJECTS];          /* by object - 1: the ranks that hold a read lock */
+    uint64_t writers[VONGSELIK_MOST_OBJECTS];          /* by object - 1: the rank that holds the write lock */
+    uint16_t request[VONGSELIK_MOST_JOBS];             /* by rank - 1: 0 if the job does not wait, else mode * 256 + object (mode 1 read, 2 write) */
+} vongselik_state;
+
+/* ---- Numbers */
+
+/* Kinds of event. */
+enum {
+    VONGSELIK_START = 1,      /* an idle job becomes active */
+    VONGSELIK_READ_LOCK = 2,  /* granted, or the job waits */
+    VONGSELIK_WRITE_LOCK = 3, /* granted, or the job waits */
+    VONGSELIK_UNLOCK = 4,     /* gives up a held lock of either mode; the job may lock no more in this run */
+    VONGSELIK_FINISH = 5,     /* ends the run and releases everything */
+    VONGSELIK_ABANDON = 6     /* as finish, also for a waiting job, whose request is dropped */
+};
+
+/* Answers to an event. */
+enum {
+    VONGSELIK_GRANTED = 1, /* the job has the lock */
+    VONGSELIK_WAITS = 2,   /* the job waits: holder, object and reason */
+    VONGSELIK_DONE = 3,    /* woken: the rank of the waiting job that got its lock, or 0 */
+    VONGSELIK_REFUSED = 4  /* refusal: the number; nothing has changed */
+};
+
+/* Reasons of a wait. */
+enum {
+    VONGSELIK_CONFLICT = 1, /* the named lock is on the requested object, and either is a write */
+    VONGSELIK_CEILING = 2,  /* the named lock's ceiling is too urgent */
+    VONGSELIK_CAP = 3       /* the named lock is a read lock whose holder is more urgent than its ceiling */
+};
+
+/* Refusals. */
+enum {
+    VONGSELIK_NOT_REFUSED = 0,
+    /* by the table bytes */
+    VONGSELIK_BYTES_END_EARLY = 1,
+    VONGSELIK_WRONG_MARK = 2,
+    VONGSELIK_WRONG_VERSION = 3,
+    VONGSELIK_COUNT_OUT_OF_RANGE = 4,
+    VONGSELIK_PROCESSOR_BYTE_TOO_LARGE = 5,
+    VONGSELIK_ENTRY_OUT_OF_RANGE = 6,
+    VONGSELIK_ENTRY_OUT_OF_ORDER = 7,
+    /* by the state handed in */
+    VONGSELIK_STATE_NOT_WELL_FORMED = 8,
+    /* by the event or the question */
+    VONGSELIK_UNKNOWN_KIND = 9,
+    VONGSELIK_RANK_OUT_OF_RANGE = 10,
+    VONGSELIK_OBJECT_OUT_OF_RANGE = 11, /* or not 0 for start, finish and abandon */
+    VONGSELIK_ALREADY_ACTIVE = 12,
+    VONGSELIK_IDLE = 13,
+    VONGSELIK_WAITING = 14,
+    VONGSELIK_LOCK_AFTER_UNLOCK = 15,
+    VONGSELIK_NOT_DECLARED = 16,
+    VONGSELIK_ALREADY_HELD = 17,
+    VONGSELIK_NOT_HELD = 18,
+    VONGSELIK_NO_SUCH_PROCESSOR = 19,
+    VONGSELIK_BUFFER_TOO_SHORT = 20
+};
+
+/* The answer to an event. What its case does not have is 0. */
+typedef struct vongselik_answer {
+    uint8_t answer;  /* VONGSELIK_GRANTED, VONGSELIK_WAITS, VONGSELIK_DONE or VONGSELIK_REFUSED */
+    uint8_t holder;  /* waits: the rank that holds the named lock */
+    uint8_t object;  /* waits: the object of the named lock */
+    uint8_t reason;  /* waits: VONGSELIK_CONFLICT, VONGSELIK_CEILING or VONGSELIK_CAP */
+    uint8_t woken;   /* done: the rank that was woken, or 0 */
+    uint8_t refusal; /* refused: the number */
+} vongselik_answer;
+
+/* One job's entries within table bytes. */
+typedef struct vongselik_entries {
+    size_t start;    /* the index of their first byte */
+    size_t length;   /* how many bytes they have, three for each entry */
+    uint8_t refusal; /* 0, or the refusal's number: then start and length are 0 */
+} vongselik_entries;
+
+/* ---- The proved functions. They take the parts of a state one by one; write the calls below instead. */
+
+uint32_t vongselik_parts_event(
+    uint8_t processors, uint8_t jobs, uint8_t objects, const uint8_t *processor_of, const uint64_t *may_read, const uint64_t *may_write,
+    uint64_t *active, uint64_t *unlocked, uint64_t *readers, uint64_t *writers, uint16_t *request, uint8_t kind, uint8_t rank, uint8_t object);
+
+uint8_t vongselik_parts_inherited_rank(
+    uint8_t processors, uint8_t jobs, uint8_t objects, const uint8_t *processor_of, const uint64_t *may_read, const uint64_t *may_write,
+    uint64_t active, uint64_t unlocked, const uint64_t *readers, const uint64_t *writers, const uint16_t *request, uint8_t rank, uint8_t *inherited);
+
+uint8_t vongselik_parts_named_lock(
+    uint8_t processors, uint8_t jobs, uint8_t objects, const uint8_t *processor_of, const uint64_t *may_read, const uint64_t *may_write,
+    uint64_t active, uint64_t unlocked, const uint64_t *readers, const uint64_t *writers, const uint16_t *request, uint8_t rank, uint8_t *holder,
+    uint8_t *object);
+
+uint8_t vongselik_parts_ceilings(
+    uint8_t processors, uint8_t jobs, uint8_t objects, const uint8_t *processor_of, const uint64_t *may_read, const uint64_t *may_write,
+    uint64_t active, uint64_t unlocked, const uint64_t *readers, const uint64_t *writers, const uint16_t *request, uint8_t object,
+    uint16_t *write_ceiling, uint16_t *absolute_ceiling);
+
+uint8_t vongselik_parts_running(
+    uint8_t processors, uint8_t jobs, uint8_t objects, const uint8_t *processor_of, const uint64_t *may_read, const uint64_t *may_write,
+    uint64_t active, uint64_t unlocked, const uint64_t *readers, const uint64_t *writers, const uint16_t *request, uint8_t processor, uint8_t *rank);
+
+uint8_t vongselik_parts_read_table(
+    const uint8_t *bytes, size_t size, size_t *used, uint8_t *processors, uint8_t *jobs, uint8_t *objects, uint8_t *processor_of, uint64_t *may_read,
+    uint64_t *may_write, uint64_t *active, uint64_t *unlocked, uint64_t *readers, uint64_t *writers, uint16_t *request);
+
+uint8_t vongselik_parts_job_entries(const uint8_t *bytes, size_t size, uint8_t rank, size_t *start, size_t *length);
+
+uint8_t vongselik_parts_write_table(
+    uint8_t processors, uint8_t jobs, uint8_t objects, const uint8_t *processor_of, const uint64_t *may_read, const uint64_t *may_write,
+    uint64_t active, uint64_t unlocked, const uint64_t *readers, const uint64_t *writers, const uint16_t *request, uint8_t *buffer, size_t size,
+    size_t *length);
+
+/* ---- Tables */
+
+/* Reads the table at the front of the bytes: fills the whole state, with every job idle and every object unlocked, and sets *used to the table's length.
+ * The bytes behind the table are not looked at. Answers 0.
+ * Refusals: 1 to 7. The state and *used are then as they were. */
+static inline uint8_t vongselik_read_table(vongselik_state *state, const uint8_t *bytes, size_t size, size_t *used)
+{
+    const uint8_t none = 0;
+    return vongselik_parts_read_table(
+        size ? bytes : &none, size, used, &state->processors, &state->jobs, &state->objects, state->processor_of, state->may_read, state->may_write,
+        &state->active, &state->unlocked, state->readers, state->writers, state->request);
+}
+
+/* Says where the entries of one job stand in table bytes; length 0 if it has none.
+ * Refusals: 1 to 7, 10. Start and length are then 0. Nothing is written. */
+static inline vongselik_entries vongselik_job_entries(const uint8_t *bytes, size_t size, uint8_t rank)
+{
+    const uint8_t none = 0;
+    vongselik_entries entries = {0, 0, 0};
+    entries.refusal = vongselik_parts_job_entries(size ? bytes : &none, size, rank, &entries.start, &entries.length);
+    return entries;
+}
+
+/* Lays the state's table into the front of the buffer, sets *length to the table's length and leaves the rest of the buffer untouched. Answers 0.
+ * Refusals: 8; 20 if the table is longer than the buffer. The buffer and *length are then as they were. The state is only read. */
+static inline uint8_t vongselik_write_table(const vongselik_state *state, uint8_t *buffer, size_t size, size_t *length)
+{
+    uint8_t none = 0;
+    return vongselik_parts_write_table(
+        state->processors, state->jobs, state->objects, state->processor_of, state->may_read, state->may_write, state->active, state->unlocked,
+        state->readers, state->writers, state->request, size ? buffer : &none, size, length);
+}
+
+/* ---- Events */
+
+/* Takes a packed answer of vongselik_parts_event apart: the answer in the top byte, then its values. */
+static inline vongselik_answer vongselik_unpack(uint32_t packed)
+{
+    vongselik_answer answer = {0, 0, 0, 0, 0, 0};
+    answer.answer = (uint8_t)(packed >> 24);
+    if (answer.answer == VONGSELIK_WAITS) {
+        answer.holder = (uint8_t)(packed >> 16);
+        answer.object = (uint8_t)(packed >> 8);
+        answer.reason = (uint8_t)packed;
+    } else if (answer.answer == VONGSELIK_DONE) {
+        answer.woken = (uint8_t)(packed >> 16);
+    } else if (answer.answer == VONGSELIK_REFUSED) {
+        answer.refusal = (uint8_t)(packed >> 16);
+    }
+    return answer;
+}
+
+/* An event of a job: its kind, its rank, and an object (0 for start, finish and abandon). Changes the state, and answers granted, waits or done.
+ * Refusals: 8 to 18, by the answer VONGSELIK_REFUSED. The state is then as it was. The table in the state is never changed. */
+static inline vongselik_answer vongselik_event(vongselik_state *state, uint8_t kind, uint8_t rank, uint8_t object)
+{
+    return vongselik_unpack(vongselik_parts_event(
+        state->processors, state->jobs, state->objects, state->processor_of, state->may_read, state->may_write, &state->active, &state->unlocked,
+        state->readers, state->writers, state->request, kind, rank, object));
+}
+
+/* ---- Questions. The state is only read. */
+
+/* Sets *inherited to the most urgent of an active job's own rank and those of the waiting jobs that name it. Answers 0.
+ * Refusals: 8, 10, 13. *inherited is then as it was. */
+static inline uint8_t vongselik_inherited_rank(const vongselik_state *state, uint8_t rank, uint8_t *inherited)
+{
+    return vongselik_parts_inherited_rank(
+        state->processors, state->jobs, state->objects, state->processor_of, state->may_read, state->may_write, state->active, state->unlocked,
+        state->readers, state->writers, state->request, rank, inherited);
+}
+
+/* Sets *holder and *object to the lock that an active job names, 0 and 0 if it names nobody. Answers 0.
+ * Refusals: 8, 10, 13. *holder and *object are then as they were. */
+static inline uint8_t vongselik_named_lock(const vongselik_state *state, uint8_t rank, uint8_t *holder, uint8_t *object)
+{
+    return vongselik_parts_named_lock(
+        state->processors, state->jobs, state->objects, state->processor_of, state->may_read, state->may_write, state->active, state->unlocked,
+        state->readers, state->writers, state->request, rank, holder, object);
+}
+
+/* Sets *write_ceiling to the most urgent rank declared to write the object, and *absolute_ceiling to the most urgent declared to read or write it;
+ * VONGSELIK_NOBODY if there is none. Answers 0.
+ * Refusals: 8, 11. The two ceilings are then as they were. */
+static inline uint8_t vongselik_ceilings(const vongselik_state *state, uint8_t object, uint16_t *write_ceiling, uint16_t *absolute_ceiling)
+{
+    return vongselik_parts_ceilings(
+        state->processors, state->jobs, state->objects, state->processor_of, state->may_read, state->may_write, state->active, state->unlocked,
+        state->readers, state->writers, state->request, object, write_ceiling, absolute_ceiling);
+}
+
+/* Sets *rank to the job that the processor runs: its active job that is not waiting with the most urgent inherited rank; 0 if the processor is idle. Answers 0.
+ * Refusals: 8, 19. *rank is then as it was. */
+static inline uint8_t vongselik_running(const vongselik_state *state, uint8_t processor, uint8_t *rank)
+{
+    return vongselik_parts_running(
+        state->processors, state->jobs, state->objects, state->processor_of, state->may_read, state->may_write, state->active, state->unlocked,
+        state->readers, state->writers, state->request, processor, rank);
+}
+
+#ifdef __cplusplus
+}
+#endif
+
+#endif

@@ -1,0 +1,411 @@
+/* The rule of document 01 written a second time: see model.h. */
+#include "model.h"
+
+#include <string.h>
+
+/* ---- A state spread out */
+
+static int in_set(uint64_t set, int rank)
+{
+    return (int)(set >> (rank - 1) & 1);
+}
+
+/* A set of ranks as flags. */
+static void spread(char *flags, uint64_t set)
+{
+    int r;
+    for (r = 1; r <= 64; r++) flags[r] = (char)in_set(set, r);
+}
+
+void model_from(model *m, const vongselik_state *s)
+{
+    int r, o;
+    memset(m, 0, sizeof *m);
+    m->processors = s->processors;
+    m->jobs = s->jobs;
+    m->objects = s->objects;
+    spread(m->active, s->active);
+    spread(m->unlocked, s->unlocked);
+    for (r = 1; r <= 64; r++) {
+        m->processor[r] = s->processor_of[r - 1];
+        m->wants[r] = s->request[r - 1] / 256;
+        m->wanted_object[r] = s->request[r - 1] % 256;
+    }
+    for (o = 1; o <= 128; o++) {
+        if (s->may_read[o - 1]) spread(m->may_read[o], s->may_read[o - 1]);
+        if (s->may_write[o - 1]) spread(m->may_write[o], s->may_write[o - 1]);
+        if (s->readers[o - 1]) spread(m->reads[o], s->readers[o - 1]);
+        if (s->writers[o - 1]) spread(m->writes[o], s->writers[o - 1]);
+    }
+}
+
+int model_same(const model *m, const vongselik_state *s)
+{
+    model other;
+    model_from(&other, s);
+    return !memcmp(m, &other, sizeof other);
+}
+
+/* ---- What a state says */
+
+static int waits(const model *m, int rank)
+{
+    return m->wants[rank] || m->wanted_object[rank];
+}
+
+static int may(const model *m, int mode, int rank, int object)
+{
+    return mode == 1 ? m->may_read[object][rank] : m->may_write[object][rank];
+}
+
+/* Refusal 17: that lock or the write lock is held already. */
+static int held_already(const model *m, int mode, int rank, int object)
+{
+    return m->writes[object][rank] || (mode == 1 && m->reads[object][rank]);
+}
+
+static int write_ceiling(const model *m, int object)
+{
+    int r = 1;
+    while (r <= 64 && !m->may_write[object][r]) r++;
+    return r;
+}
+
+static int absolute_ceiling(const model *m, int object)
+{
+    int r = 1;
+    while (r <= 64 && !m->may_write[object][r] && !m->may_read[object][r]) r++;
+    return r;
+}
+
+/* ---- Well formed */
+
+static int job_fits(const model *m, int r)
+{
+    if (r > m->jobs) return !m->active[r] && !m->unlocked[r] && !waits(m, r);
+    if (m->processor[r] >= m->processors) return 0;
+    if (!m->active[r] && (m->unlocked[r] || waits(m, r))) return 0;
+    if (!waits(m, r)) return 1;
+    if (m->unlocked[r] || m->wants[r] < 1 || m->wants[r] > 2) return 0;
+    if (m->wanted_object[r] < 1 || m->wanted_object[r] > m->objects) return 0;
+    return may(m, m->wants[r], r, m->wanted_object[r]) && !held_already(m, m->wants[r], r, m->wanted_object[r]);
+}
+
+static int object_fits(const model *m, int o)
+{
+    int r, locks = 0, write_locks = 0;
+    for (r = 1; r <= 64; r++) {
+        if ((m->may_read[o][r] || m->may_write[o][r]) && (o > m->objects || r > m->jobs)) return 0;
+        if (m->reads[o][r] && !(m->active[r] && m->may_read[o][r])) return 0;
+        if (m->writes[o][r] && !(m->active[r] && m->may_write[o][r])) return 0;
+        locks += m->reads[o][r] + m->writes[o][r];
+        write_locks += m->writes[o][r];
+    }
+    return !write_locks || locks == 1;
+}
+
+int model_well_formed(const model *m)
+{
+    int i;
+    if (m->processors < 1 || m->processors > 8 || m->jobs < 1 || m->jobs > 64 || m->objects < 1 || m->objects > 128) return 0;
+    for (i = 1; i <= 64; i++)
+        if (!job_fits(m, i)) return 0;
+    for (i = 1; i <= 128; i++)
+        if (!object_fits(m, i)) return 0;
+    return 1;
+}
+
+/* ---- Granting, naming, waking */
+
+typedef struct {
+    int weight, holder, object, write;
+} lock;
+
+/* Of the locks of other jobs the one that a waiting job names: the most urgent weight, then the lowest rank, then the lowest object. */
+static lock named(const model *m, int rank)
+{
+    lock best = {1000, 0, 0, 0};
+    int h, o;
+    for (h = 1; h <= 64; h++)
+        for (o = 1; o <= 128; o++) {
+            int weight;
+            if (h == rank || !(m->reads[o][h] || m->writes[o][h])) continue;
+            weight = m->writes[o][h] ? absolute_ceiling(m, o) : write_ceiling(m, o) < h ? write_ceiling(m, o) : h;
+            if (weight < best.weight) {
+                best.weight = weight;
+                best.holder = h;
+                best.object = o;
+                best.write = m->writes[o][h];
+            }
+        }
+    return best;
+}
+
+static int passes(const model *m, int rank)
+{
+    return rank < named(m, rank).weight;
+}
+
+static int reason_of(const model *m, int mode, int object, lock l)
+{
+    if (l.object == object && (l.write || mode == 2)) return VONGSELIK_CONFLICT;
+    if (!l.write && l.holder < write_ceiling(m, l.object)) return VONGSELIK_CAP;
+    return VONGSELIK_CEILING;
+}
+
+static void give(model *m, int mode, int rank, int object)
+{
+    m->wants[rank] = m->wanted_object[rank] = 0;
+    if (mode == 1) {
+        m->reads[object][rank] = 1;
+    } else {
+        m->reads[object][rank] = 0;
+        m->writes[object][rank] = 1;
+    }
+}
+
+static int wake(model *m)
+{
+    int r;
+    for (r = 1; r <= m->jobs; r++)
+        if (waits(m, r) && passes(m, r)) {
+            give(m, m->wants[r], r, m->wanted_object[r]);
+            return r;
+        }
+    return 0;
+}
+
+/* ---- Events */
+
+static int is_lock_kind(int kind)
+{
+    return kind == VONGSELIK_READ_LOCK || kind == VONGSELIK_WRITE_LOCK;
+}
+
+static int event_refusal(const model *m, int kind, int rank, int object)
+{
+    int on_object = is_lock_kind(kind) || kind == VONGSELIK_UNLOCK;
+    if (!model_well_formed(m)) return 8;
+    if (kind < 1 || kind > 6) return 9;
+    if (rank < 1 || rank > m->jobs) return 10;
+    if (on_object ? object < 1 || object > m->objects : object != 0) return 11;
+    if (kind == VONGSELIK_START && m->active[rank]) return 12;
+    if (kind != VONGSELIK_START && !m->active[rank]) return 13;
+    if (kind >= 2 && kind <= 5 && waits(m, rank)) return 14;
+    if (is_lock_kind(kind) && m->unlocked[rank]) return 15;
+    if (is_lock_kind(kind) && !may(m, kind - 1, rank, object)) return 16;
+    if (is_lock_kind(kind) && held_already(m, kind - 1, rank, object)) return 17;
+    if (kind == VONGSELIK_UNLOCK && !m->reads[object][rank] && !m->writes[object][rank]) return 18;
+    return 0;
+}
+
+static vongselik_answer request(model *m, int mode, int rank, int object)
+{
+    vongselik_answer a = {VONGSELIK_GRANTED, 0, 0, 0, 0, 0};
+    lock l = named(m, rank);
+    if (rank < l.weight) {
+        give(m, mode, rank, object);
+        return a;
+    }
+    m->wants[rank] = mode;
+    m->wanted_object[rank] = object;
+    a.answer = VONGSELIK_WAITS;
+    a.holder = (uint8_t)l.holder;
+    a.object = (uint8_t)l.object;
+    a.reason = (uint8_t)reason_of(m, mode, object, l);
+    return a;
+}
+
+static void end_run(model *m, int rank)
+{
+    int o;
+    m->active[rank] = m->unlocked[rank] = 0;
+    m->wants[rank] = m->wanted_object[rank] = 0;
+    for (o = 1; o <= 128; o++) m->reads[o][rank] = m->writes[o][rank] = 0;
+}
+
+vongselik_answer model_event(model *m, int kind, int rank, int object)
+{
+    vongselik_answer a = {VONGSELIK_DONE, 0, 0, 0, 0, 0};
+    int refusal = event_refusal(m, kind, rank, object);
+    if (refusal) {
+        a.answer = VONGSELIK_REFUSED;
+        a.refusal = (uint8_t)refusal;
+        return a;
+    }
+    if (is_lock_kind(kind)) return request(m, kind - 1, rank, object);
+    if (kind == VONGSELIK_START) {
+        m->active[rank] = 1;
+        return a;
+    }
+    if (kind == VONGSELIK_UNLOCK) {
+        m->reads[object][rank] = m->writes[object][rank] = 0;
+        m->unlocked[rank] = 1;
+    } else {
+        end_run(m, rank);
+    }
+    a.woken = (uint8_t)wake(m);
+    return a;
+}
+
+/* ---- Questions */
+
+static int job_refusal(const model *m, int rank)
+{
+    if (!model_well_formed(m)) return 8;
+    if (rank < 1 || rank > m->jobs) return 10;
+    return m->active[rank] ? 0 : 13;
+}
+
+/* The lock that a job names, of holder 0 if it names nobody. */
+static lock named_by(const model *m, int rank)
+{
+    lock none = {0, 0, 0, 0};
+    return waits(m, rank) && !passes(m, rank) ? named(m, rank) : none;
+}
+
+static int inherited(const model *m, int rank)
+{
+    int r;
+    for (r = 1; r < rank; r++)
+        if (waits(m, r) && named_by(m, r).holder == rank) return r;
+    return rank;
+}
+
+int model_inherited_rank(const model *m, int rank, int *value)
+{
+    int refusal = job_refusal(m, rank);
+    if (!refusal) *value = inherited(m, rank);
+    return refusal;
+}
+
+int model_named_lock(const model *m, int rank, int *holder, int *object)
+{
+    int refusal = job_refusal(m, rank);
+    if (!refusal) {
+        *holder = named_by(m, rank).holder;
+        *object = named_by(m, rank).object;
+    }
+    return refusal;
+}
+
+int model_ceilings(const model *m, int object, int *write_value, int *absolute_value)
+{
+    if (!model_well_formed(m)) return 8;
+    if (object < 1 || object > m->objects) return 11;
+    *write_value = write_ceiling(m, object);
+    *absolute_value = absolute_ceiling(m, object);
+    return 0;
+}
+
+int model_running(const model *m, int processor, int *rank)
+{
+    int r, best = 1000;
+    if (!model_well_formed(m)) return 8;
+    if (processor >= m->processors) return 19;
+    *rank = 0;
+    for (r = 1; r <= m->jobs; r++)
+        if (m->processor[r] == processor && m->active[r] && !waits(m, r) && inherited(m, r) < best) {
+            best = inherited(m, r);
+            *rank = r;
+        }
+    return 0;
+}
+
+/* ---- Tables */
+
+/* The refusals 1 to 4 of header and lengths. */
+static int layout_refusal(const uint8_t *b, size_t size)
+{
+    size_t count;
+    if (size < 8) return 1;
+    if (b[0] != 'J' || b[1] != 'O' || b[2] != 'B') return 2;
+    if (b[3] != 0 || b[4] != 1) return 3;
+    if (b[5] < 1 || b[5] > 8 || b[6] < 1 || b[6] > 64 || b[7] < 1 || b[7] > 128) return 4;
+    if (size < (size_t)10 + b[6]) return 1;
+    count = (size_t)b[8 + b[6]] * 256 + b[9 + b[6]];
+    if (count > 8192) return 4;
+    return size < 10 + b[6] + 3 * count ? 1 : 0;
+}
+
+static int table_refusal(const uint8_t *b, size_t size)
+{
+    const uint8_t *e, *end;
+    int r, refusal = layout_refusal(b, size), rank = 0, object = 0;
+    if (refusal) return refusal;
+    for (r = 1; r <= b[6]; r++)
+        if (b[7 + r] >= b[5]) return 5;
+    e = b + 10 + b[6];
+    end = e + 3 * ((size_t)b[8 + b[6]] * 256 + b[9 + b[6]]);
+    for (; e < end; e += 3) {
+        if (e[0] < 1 || e[0] > b[6] || e[1] < 1 || e[1] > b[7] || e[2] < 1 || e[2] > 3) return 6;
+        if (e[0] < rank || (e[0] == rank && e[1] <= object)) return 7;
+        rank = e[0];
+        object = e[1];
+    }
+    return 0;
+}
+
+int model_read_table(model *m, const uint8_t *b, size_t size, size_t *used)
+{
+    size_t i, count;
+    int r, refusal = table_refusal(b, size);
+    if (refusal) return refusal;
+    memset(m, 0, sizeof *m);
+    m->processors = b[5];
+    m->jobs = b[6];
+    m->objects = b[7];
+    for (r = 1; r <= m->jobs; r++) m->processor[r] = b[7 + r];
+    count = (size_t)b[8 + b[6]] * 256 + b[9 + b[6]];
+    for (i = 0; i < count; i++) {
+        const uint8_t *e = b + 10 + b[6] + 3 * i;
+        if (e[2] != 2) m->may_read[e[1]][e[0]] = 1;
+        if (e[2] != 1) m->may_write[e[1]][e[0]] = 1;
+    }
+    *used = 10 + b[6] + 3 * count;
+    return 0;
+}
+
+int model_job_entries(const uint8_t *b, size_t size, int rank, size_t *start, size_t *length)
+{
+    size_t i, count;
+    int refusal = table_refusal(b, size);
+    if (refusal) return refusal;
+    if (rank < 1 || rank > b[6]) return 10;
+    count = (size_t)b[8 + b[6]] * 256 + b[9 + b[6]];
+    *start = (size_t)10 + b[6];
+    *length = 0;
+    for (i = 0; i < count; i++) {
+        int r = b[10 + b[6] + 3 * i];
+        if (r < rank) *start += 3;
+        if (r == rank) *length += 3;
+    }
+    return 0;
+}
+
+int model_write_table(const model *m, uint8_t *buffer, size_t size, size_t *length)
+{
+    uint8_t b[VONGSELIK_LONGEST_TABLE] = {'J', 'O', 'B', 0, 1};
+    size_t n = (size_t)10 + m->jobs, count;
+    int r, o;
+    if (!model_well_formed(m)) return 8;
+    b[5] = (uint8_t)m->processors;
+    b[6] = (uint8_t)m->jobs;
+    b[7] = (uint8_t)m->objects;
+    for (r = 1; r <= m->jobs; r++) b[7 + r] = (uint8_t)m->processor[r];
+    for (r = 1; r <= m->jobs; r++)
+        for (o = 1; o <= m->objects; o++) {
+            int mode = m->may_read[o][r] + 2 * m->may_write[o][r];
+            if (!mode) continue;
+            b[n++] = (uint8_t)r;
+            b[n++] = (uint8_t)o;
+            b[n++] = (uint8_t)mode;
+        }
+    if (size < n) return 20;
+    count = (n - 10 - m->jobs) / 3;
+    b[8 + m->jobs] = (uint8_t)(count / 256);
+    b[9 + m->jobs] = (uint8_t)(count % 256);
+    memcpy(buffer, b, n);
+    *length = n;
+    return 0;
+}

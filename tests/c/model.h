@@ -1,0 +1,42 @@
+/* The rule of document 01 written a second time, as plainly as possible: sets are tables of flags, loops go over every job and object. */
+#ifndef MODEL_H
+#define MODEL_H
+
+#include <stddef.h>
+#include <stdint.h>
+
+#include "vongselik.h"
+
+/* A state, spread out. Index 0 is not used: ranks and objects count from 1. */
+typedef struct model {
+    int processors, jobs, objects;
+    int processor[65];
+    char may_read[129][65], may_write[129][65];
+    char active[65], unlocked[65];
+    char reads[129][65], writes[129][65];
+    int wants[65], wanted_object[65]; /* wants: 0 nothing, else the mode of the request, which may be a wrong one in a state that was handed in */
+} model;
+
+/* The state in a C struct, spread out. */
+void model_from(model *m, const vongselik_state *s);
+
+/* Whether both say the same. */
+int model_same(const model *m, const vongselik_state *s);
+
+/* Whether the state is well formed: refusal 8. */
+int model_well_formed(const model *m);
+
+vongselik_answer model_event(model *m, int kind, int rank, int object);
+
+/* The questions answer the refusal's number, or 0 and the values. */
+int model_inherited_rank(const model *m, int rank, int *inherited);
+int model_named_lock(const model *m, int rank, int *holder, int *object);
+int model_ceilings(const model *m, int object, int *write_ceiling, int *absolute_ceiling);
+int model_running(const model *m, int processor, int *rank);
+
+/* The tables: the refusal's number, or 0 and the values. */
+int model_read_table(model *m, const uint8_t *bytes, size_t size, size_t *used);
+int model_job_entries(const uint8_t *bytes, size_t size, int rank, size_t *start, size_t *length);
+int model_write_table(const model *m, uint8_t *buffer, size_t size, size_t *length);
+
+#endif
