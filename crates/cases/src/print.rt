@@ -6,23 +6,23 @@ use manager::RankAnswer;
 use ranks::RankSet;
 
 // Writes the text and, behind it, the number.
-pub fn say(text: &[u8], n: u64) {
+pub(crate) fn say(text: &[u8], n: u64) {
     io::write_all(1, text);
     io::print_decimal(1, n);
 }
 
 // Writes the number behind a space.
-pub fn say_number(n: u8) {
+pub(crate) fn say_number(n: u8) {
     say(b" ", n as u64);
 }
 
 // Writes that a call was refused, and by which number.
-pub fn say_refused(number: u8) {
+pub(crate) fn say_refused(number: u8) {
     say(b" refused by ", number as u64);
 }
 
 // Writes an event's answer.
-pub fn say_answer(answer: Answer) {
+pub(crate) fn say_answer(answer: Answer) {
     match answer {
         Answer::Granted => {
             io::write_all(1, b" granted");
@@ -47,7 +47,7 @@ pub fn say_answer(answer: Answer) {
 }
 
 // Writes the answer to a question for one rank.
-pub fn say_rank(answer: RankAnswer) {
+pub(crate) fn say_rank(answer: RankAnswer) {
     match answer {
         RankAnswer::Rank(rank) => say_number(rank),
         RankAnswer::Refused(number) => say_refused(number),
@@ -55,7 +55,7 @@ pub fn say_rank(answer: RankAnswer) {
 }
 
 // Writes the answer to the question for a named lock: holder and object.
-pub fn say_named(answer: NamedAnswer) {
+pub(crate) fn say_named(answer: NamedAnswer) {
     match answer {
         NamedAnswer::Lock { holder, object } => {
             say_number(holder);
@@ -66,7 +66,7 @@ pub fn say_named(answer: NamedAnswer) {
 }
 
 // Writes the answer to the question for an object's ceilings: write and absolute.
-pub fn say_ceilings(answer: CeilingsAnswer) {
+pub(crate) fn say_ceilings(answer: CeilingsAnswer) {
     match answer {
         CeilingsAnswer::Ceilings { write, absolute } => {
             say(b" ", write as u64);
@@ -77,7 +77,7 @@ pub fn say_ceilings(answer: CeilingsAnswer) {
 }
 
 // Writes the ranks of the set, each behind a space.
-pub fn say_ranks(set: RankSet) {
+pub(crate) fn say_ranks(set: RankSet) {
     let mut rank: u8 = 0;
     while rank < 64 {
         rank += 1;
@@ -88,7 +88,7 @@ pub fn say_ranks(set: RankSet) {
 }
 
 // Writes the bytes as numbers, each behind a space.
-pub fn say_bytes(bytes: &[u8]) {
+pub(crate) fn say_bytes(bytes: &[u8]) {
     let mut i: usize = 0;
     while i < bytes.len() {
         say_number(bytes[i]);

@@ -141,7 +141,7 @@ fn run_step(bytes: &[u8], state: State, letter: u8, rank: u8, object: u8) -> Sta
 
 // Runs the steps from the table's fresh state, each over the state that the one before it returned. A step is four characters:
 // a space, its letter, a rank and an object.
-pub fn run_steps(bytes: &[u8], steps: &[u8]) {
+pub(crate) fn run_steps(bytes: &[u8], steps: &[u8]) {
     let read = table::read_table(bytes);
     let mut state = read.state;
     let mut rest = steps;

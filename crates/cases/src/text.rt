@@ -4,7 +4,7 @@ ghost use lib.ListN.{length};
 ghost use Rattle.io.specs.Counts.{Counts};
 
 // The number that a character stands for: digits for 0 to 9, A for 32, a for 64, b for 65, x for 128, y for 129, others for their byte.
-pub fn number_of(character: u8) -> u8 {
+pub(crate) fn number_of(character: u8) -> u8 {
     match character {
         b'0'..=b'9' => character - b'0',
         b'A' => 32,
@@ -17,7 +17,7 @@ pub fn number_of(character: u8) -> u8 {
 }
 
 // How many bytes of the text there are up to the first such byte, itself included; all of them if there is none.
-pub fn length_through(text: &[u8], byte: u8) -> usize
+pub(crate) fn length_through(text: &[u8], byte: u8) -> usize
     ensures { λ r. ⌜ Counts r (now (text .entry)) ⌝ }
     ensures { λ r. ⌜ min 1 (length (now (text .entry))) ≤ r ⌝ }
 {
@@ -33,7 +33,7 @@ pub fn length_through(text: &[u8], byte: u8) -> usize
 
 // Puts the numbers that a table line's characters stand for, without its first and its line feed, into the buffer as far as it goes,
 // and answers how many there are.
-pub fn read_numbers(line: &[u8], buffer: &mut [u8]) -> usize
+pub(crate) fn read_numbers(line: &[u8], buffer: &mut [u8]) -> usize
     ensures { λ r. ⌜ Counts r (now (buffer .exit)) ⌝ }
 {
     let mut i: usize = 0;

@@ -1,12 +1,12 @@
 -- A run over the events in some bytes, partway: what is laid so far, and what is left.
 -- Assumes nothing.
-use Prim.Native.Nat.{ℕ, suc, _+_, _-_, _*_, _≤_, _<_}
+use Prim.Native.Nat.{ℕ, suc, _+_, _*_, _≤_, _<_}
 use mathlib.Core.Path.{_≡_, refl, sym, ap, ap₂, _∙_}
 use mathlib.Core.List.{List, [], _∷_, _++_, append-assoc, append-nil}
 use native.Mathlib.Numerals.{add-one}
 use native.Mathlib.Omega.{arith}
 use lib.ListN.{length, drop, getD, length-drop}
-use lib.Seq.{sets, length-sets, drop-cons}
+use lib.Seq.{length-sets, drop-cons}
 use Rattle.state.specs.declared.State.{State}
 use Rattle.manager.specs.Events.{step}
 use Rattle.record.specs.Lines.{eventLine}
@@ -90,8 +90,7 @@ pub run-end : (bytes : List ℕ) (s₀ s : State) (n₀ n : ℕ) (buf₀ buf : L
     → (s ≡ stateAfter s₀ bytes) × Laid buf₀ buf 0 end (15 * length bytes) (eventLines s₀ n₀ bytes)
 run-end bytes s₀ s n₀ n buf₀ buf place end r h =
     let p = r .inside in
-    let few : length (drop place bytes) < 3 = omega (arith, length-drop place bytes) in
-    (
+    let few : length (drop place bytes) < 3 = omega (arith, length-drop place bytes) in (
       sym (r .after ∙ state-after-none s (drop place bytes) few),
       laid-is (r .laid) (sym (r .lines ∙ ap (λ (k : List ℕ). r .text ++ k) (event-lines-none s n (drop place bytes) few) ∙ append-nil (r .text))) (omega arith),
     )

@@ -2,7 +2,6 @@
 -- Each turn answers an event at least, so that the events left to the limit fall. Assumes nothing.
 use mathlib.Core.Path.{_≡_}
 use Prim.Native.Nat.{_≤_, _-_}
-use native.Mathlib.Omega.{arith}
 use lib.ListN.{length}
 use borrow.Author.Needs.{needs}
 use Rattle.bench.proofs.write_events.Statement.{statement}

@@ -1,10 +1,7 @@
 -- `record::lay::lay_field` meets its contract: a space, and behind it the digits, at most three.
 -- Assumes nothing.
 use mathlib.Core.Path.{refl}
-use Prim.Native.Nat.{suc, _≤_}
 use native.Mathlib.Omega.{arith}
-use lib.ListN.{length}
-use Rattle.record.specs.Lines.{decimal}
 use Rattle.record.specs.LineLaws.{byte-length, laid-then, laid-is}
 use borrow.Author.Needs.{needs}
 use Rattle.record.proofs.lay.lay_field.Statement.{statement}
