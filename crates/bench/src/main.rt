@@ -147,6 +147,7 @@ fn write_events(state: State, input: &mut [u8], from: usize, filled: usize)
     }
 }
 
+// Reads the table and what stands behind it in the buffer, then the events to the end of the input.
 fn main() {
     let mut input = io::large_buffer();
     let filled = io::read_full(STDIN_FILENO, &mut input);

@@ -17,6 +17,16 @@ pub fn lay_byte(buf: &mut [u8], at: usize, byte: u8) -> usize
     at + 1
 }
 
+// Three bytes laid from the index on.
+pub fn lay_three(buf: &mut [u8], at: usize, a: u8, b: u8, c: u8) -> usize
+    requires { ⌜ at + 3 ≤ length (now buf) ⌝ }
+    ensures { λ r. ⌜ Laid (now (buf .entry)) (now (buf .exit)) at r 3 (a ∷ b ∷ c ∷ []) ⌝ }
+{
+    let second = lay_byte(buf, at, a);
+    let third = lay_byte(buf, second, b);
+    lay_byte(buf, third, c)
+}
+
 // A number's decimal digits laid from the index on, without leading zeros.
 pub fn lay_number(buf: &mut [u8], at: usize, number: u64) -> usize
     requires { ⌜ at + 20 ≤ length (now buf) ⌝ }
@@ -135,9 +145,7 @@ pub fn lay_header(buf: &mut [u8], jobs: u8, processors: u8, objects: u8) -> usiz
     requires { ⌜ 20 ≤ length (now buf) ⌝ }
     ensures { λ r. ⌜ Laid (now (buf .entry)) (now (buf .exit)) 0 r 20 (headerLine jobs processors objects) ⌝ }
 {
-    let o = lay_byte(buf, 0, b'J');
-    let b = lay_byte(buf, o, b'O');
-    let mark = lay_byte(buf, b, b'B');
+    let mark = lay_three(buf, 0, b'J', b'O', b'B');
     let version = lay_field(buf, mark, 1);
     let end = lay_field(buf, version, jobs);
     let next = lay_field(buf, end, processors);
@@ -149,9 +157,7 @@ pub fn lay_end(buf: &mut [u8], events: u64) -> usize
     requires { ⌜ 25 ≤ length (now buf) ⌝ }
     ensures { λ r. ⌜ Laid (now (buf .entry)) (now (buf .exit)) 0 r 25 (endLine events) ⌝ }
 {
-    let n = lay_byte(buf, 0, b'e');
-    let d = lay_byte(buf, n, b'n');
-    let word = lay_byte(buf, d, b'd');
+    let word = lay_three(buf, 0, b'e', b'n', b'd');
     let space = lay_byte(buf, word, b' ');
     let end = lay_number(buf, space, events);
     lay_byte(buf, end, b'\n')
@@ -162,12 +168,8 @@ pub fn lay_short(buf: &mut [u8]) -> usize
     requires { ⌜ 6 ≤ length (now buf) ⌝ }
     ensures { λ r. ⌜ Laid (now (buf .entry)) (now (buf .exit)) 0 r 6 shortLine ⌝ }
 {
-    let h = lay_byte(buf, 0, b's');
-    let o = lay_byte(buf, h, b'h');
-    let r = lay_byte(buf, o, b'o');
-    let t = lay_byte(buf, r, b'r');
-    let end = lay_byte(buf, t, b't');
-    lay_byte(buf, end, b'\n')
+    let middle = lay_three(buf, 0, b's', b'h', b'o');
+    lay_three(buf, middle, b'r', b't', b'\n')
 }
 
 // The line of a refused table.

@@ -110,4 +110,3 @@ pub fn lay_events<'a>(
     }
     end
 }
-// x

@@ -6,23 +6,17 @@ use borrow.Author.Needs.{needs}
 use Rattle.record.proofs.lay.lay_end.Statement.{statement}
 use Rattle.record.proofs.lay.lay_end.Tie as tie
 
+lay-three-requires : tie.Need-lay-three-requires
+lay-three-requires c κs = search needs
+
 lay-byte-requires : tie.Need-lay-byte-requires
 lay-byte-requires c κs = search needs
-
-lay-byte-requires-2 : tie.Need-lay-byte-requires-2
-lay-byte-requires-2 c κs = search needs
-
-lay-byte-requires-3 : tie.Need-lay-byte-requires-3
-lay-byte-requires-3 c κs = search needs
-
-lay-byte-requires-4 : tie.Need-lay-byte-requires-4
-lay-byte-requires-4 c κs = search needs
 
 lay-number-requires : tie.Need-lay-number-requires
 lay-number-requires c κs = search needs
 
-lay-byte-requires-5 : tie.Need-lay-byte-requires-5
-lay-byte-requires-5 c κs = search needs
+lay-byte-requires-2 : tie.Need-lay-byte-requires-2
+lay-byte-requires-2 c κs = search needs
 
 same-length : tie.Need-same-length
 same-length c = search needs
@@ -30,22 +24,10 @@ same-length c = search needs
 returns : tie.Need-returns
 unfolding endLine
 returns c =
-    laid-then (c .before .before .before .before .before .before .before .before .before .before .before .before .before .before .before .before .before .before .before .before .before .before .lay-byte .ensures)
-    (laid-then (c .before .before .before .before .before .before .before .before .before .before .before .before .before .before .before .before .before .before .lay-byte2 .ensures)
-    (laid-then (c .before .before .before .before .before .before .before .before .before .before .before .before .before .before .lay-byte3 .ensures)
-    (laid-then (c .before .before .before .before .before .before .before .before .before .before .lay-byte4 .ensures)
+    laid-then (c .before .before .before .before .before .before .before .before .before .before .before .before .before .before .lay-three .ensures)
+    (laid-then (c .before .before .before .before .before .before .before .before .before .before .lay-byte .ensures)
     (laid-then (c .before .before .before .before .before .before .lay-number .ensures)
-    (c .before .before .lay-byte5 .ensures)))))
+    (c .before .before .lay-byte2 .ensures)))
 
 pub lay-end-spec : {M : Type 1} → statement M
-lay-end-spec =
-    tie.close
-    (tie.spec
-    lay-byte-requires
-    lay-byte-requires-2
-    lay-byte-requires-3
-    lay-byte-requires-4
-    lay-number-requires
-    lay-byte-requires-5
-    same-length
-    returns)
+lay-end-spec = tie.close (tie.spec lay-three-requires lay-byte-requires lay-number-requires lay-byte-requires-2 same-length returns)

@@ -6,14 +6,8 @@ use borrow.Author.Needs.{needs}
 use Rattle.record.proofs.lay.lay_header.Statement.{statement}
 use Rattle.record.proofs.lay.lay_header.Tie as tie
 
-lay-byte-requires : tie.Need-lay-byte-requires
-lay-byte-requires c κs = search needs
-
-lay-byte-requires-2 : tie.Need-lay-byte-requires-2
-lay-byte-requires-2 c κs = search needs
-
-lay-byte-requires-3 : tie.Need-lay-byte-requires-3
-lay-byte-requires-3 c κs = search needs
+lay-three-requires : tie.Need-lay-three-requires
+lay-three-requires c κs = search needs
 
 lay-field-requires : tie.Need-lay-field-requires
 lay-field-requires c κs = search needs
@@ -33,24 +27,11 @@ same-length c = search needs
 returns : tie.Need-returns
 unfolding headerLine
 returns c =
-    laid-then (c .before .before .before .before .before .before .before .before .before .before .before .before .before .before .before .before .before .before .before .before .before .before .before .before .before .before .lay-byte .ensures)
-    (laid-then (c .before .before .before .before .before .before .before .before .before .before .before .before .before .before .before .before .before .before .before .before .before .before .lay-byte2 .ensures)
-    (laid-then (c .before .before .before .before .before .before .before .before .before .before .before .before .before .before .before .before .before .before .lay-byte3 .ensures)
+    laid-then (c .before .before .before .before .before .before .before .before .before .before .before .before .before .before .before .before .before .before .lay-three .ensures)
     (laid-then (c .before .before .before .before .before .before .before .before .before .before .before .before .before .before .lay-field .ensures)
     (laid-then (c .before .before .before .before .before .before .before .before .before .before .lay-field2 .ensures)
     (laid-then (c .before .before .before .before .before .before .lay-field3 .ensures)
-    (c .before .before .lay-last .ensures))))))
+    (c .before .before .lay-last .ensures))))
 
 pub lay-header-spec : {M : Type 1} → statement M
-lay-header-spec =
-    tie.close
-    (tie.spec
-    lay-byte-requires
-    lay-byte-requires-2
-    lay-byte-requires-3
-    lay-field-requires
-    lay-field-requires-2
-    lay-field-requires-3
-    lay-last-requires
-    same-length
-    returns)
+lay-header-spec = tie.close (tie.spec lay-three-requires lay-field-requires lay-field-requires-2 lay-field-requires-3 lay-last-requires same-length returns)
