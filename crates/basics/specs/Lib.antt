@@ -1,4 +1,5 @@
--- What the specifications of all crates are written with: choices by a test, loops over 1, .., n, arrays counted from 1.
+-- What the specifications of all crates are written with: choices by a test, loops over 1, .., n, arrays counted from 1, lists taken three elements at a time.
 pub mod Choice
 pub mod Loops
 pub mod Arrays
+pub mod Threes

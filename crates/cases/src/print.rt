@@ -1,8 +1,8 @@
 // Words, numbers, sets and answers on standard output.
 use manager::Answer;
-use manager::CeilingsAnswer;
-use manager::NamedAnswer;
-use manager::RankAnswer;
+use questions::CeilingsAnswer;
+use questions::NamedAnswer;
+use questions::RankAnswer;
 use ranks::RankSet;
 
 // Writes the text and, behind it, the number.

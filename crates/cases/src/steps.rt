@@ -67,10 +67,10 @@ fn write_table(state: State) {
 // A question: n for the lock that the job names, i for its inherited rank, p for the rank that the processor runs, c for the object's ceilings.
 fn ask(state: State, letter: u8, rank: u8, object: u8) {
     match letter {
-        b'n' => say_named(manager::named_lock(state, rank)),
-        b'i' => say_rank(manager::inherited_rank(state, rank)),
-        b'p' => say_rank(manager::running(state, rank)),
-        _ => say_ceilings(manager::ceilings(state, object)),
+        b'n' => say_named(questions::named_lock(state, rank)),
+        b'i' => say_rank(questions::inherited_rank(state, rank)),
+        b'p' => say_rank(questions::running(state, rank)),
+        _ => say_ceilings(questions::ceilings(state, object)),
     }
 }
 

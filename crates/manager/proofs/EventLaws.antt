@@ -18,8 +18,8 @@ use Rattle.rule.specs.Keys.{Weigh, keyWeight, keyHolder, keyObject, lowestKeyBy
 use Rattle.rule.specs.KeyLaws.{key-at}
 use Rattle.rule.specs.Granting.{passesBelow, reason, wakeable}
 use Rattle.manager.specs.declared.Answer.the-variants.{Granted, Waits, Done, Refused}
-use Rattle.manager.specs.Accepting.{RequestsFit}
-use Rattle.manager.specs.Refusals.{modeOf, refusal}
+use Rattle.refusals.specs.Accepting.{RequestsFit}
+use Rattle.refusals.specs.Refusals.{modeOf, refusal}
 use Rattle.manager.specs.Events.{outcome, requestMeeting, request, woken, wake, unlock, finish, accepted, step}
 
 -- ---- the rule of each kind

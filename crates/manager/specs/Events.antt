@@ -10,7 +10,7 @@ use Rattle.rule.specs.Granting.{passesBelow, reason, wakeable}
 use Rattle.manager.specs.declared.Outcome.{Outcome}
 use Rattle.manager.specs.declared.Answer.{Answer}
 use Rattle.manager.specs.declared.Answer.the-variants.{Granted, Waits, Done, Refused}
-use Rattle.manager.specs.Refusals.{isRequest, modeOf, refusal}
+use Rattle.refusals.specs.Refusals.{isRequest, modeOf, refusal}
 
 abbrev pub outcome : Answer → State → Outcome
 outcome a s = record { answer = a; state = s }

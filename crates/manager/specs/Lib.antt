@@ -1,6 +1,3 @@
--- The lock manager: the refusals and rules of the six kinds of event, and the questions.
+-- The lock manager: the rules of the six kinds of event.
 pub mod Answers
-pub mod Refusals
-pub mod Accepting
 pub mod Events
-pub mod Questions

@@ -11,7 +11,7 @@ use Rattle.state.specs.declared.State.{State}
 use Rattle.state.specs.State.{read, write, isRank, isObject, mayLock, holds, holdsAlready, isActive, hasUnlocked, requestOf, isWaiting}
 use Rattle.state.specs.WellFormed.{wellFormed}
 use Rattle.state.specs.Facts.{RequestFacts}
-use Rattle.manager.specs.Refusals.{isRequest, modeOf, objectAllowed, eventRefusal, refusal}
+use Rattle.refusals.specs.Refusals.{isRequest, modeOf, objectAllowed, eventRefusal, refusal}
 
 pub record Accepted (s : State) (k r o : ℕ) : Type 0 where
   pub kind : between 1 6 k ≡ true

@@ -19,13 +19,13 @@ use Rattle.rule.specs.Keys.{othersKey, objectKey, lowestKeyBy}
 use Rattle.rule.specs.Granting.{namedKey, reason, wakeable}
 use Rattle.rule.specs.Running as R
 use Rattle.rule.specs.Running.{runningRank}
-use Rattle.manager.specs.declared.RankAnswer.{RankAnswer}
-use Rattle.manager.specs.declared.RankAnswer.the-variants.{Rank}
+use Rattle.questions.specs.declared.RankAnswer.{RankAnswer}
+use Rattle.questions.specs.declared.RankAnswer.the-variants.{Rank}
 use Rattle.manager.specs.Answers.{Paper, paper}
-use Rattle.manager.specs.Refusals as E
-use Rattle.manager.specs.Refusals.{eventRefusal, refusal, jobRefusal}
+use Rattle.refusals.specs.Refusals as E
+use Rattle.refusals.specs.Refusals.{eventRefusal, refusal, jobRefusal}
 use Rattle.manager.specs.Events.{requestMeeting, woken, wake, accepted, step}
-use Rattle.manager.specs.Questions.{inheritedRank, running}
+use Rattle.questions.specs.Questions.{inheritedRank, running}
 
 -- ---- the four answers, by their number and values
 

@@ -23,10 +23,11 @@ use Rattle.rule.specs.KeyLaws.{OthersLock, KeyOfOther, key-below, key-top, key-
 use Rattle.rule.specs.Granting.{passes, oldPasses, namedKey}
 use Rattle.rule.specs.Running as R
 use Rattle.rule.specs.Running.{inheritedFrom, isReady, readyKey, runningRank}
-use Rattle.manager.specs.Answers.{paper, rankValue}
-use Rattle.manager.specs.Refusals.{isRequest, modeOf, refusal, processorRefusal}
+use Rattle.manager.specs.Answers.{paper}
+use Rattle.refusals.specs.Refusals.{isRequest, modeOf, refusal, processorRefusal}
 use Rattle.manager.specs.Events.{requestMeeting, request, accepted, step}
-use Rattle.manager.specs.Questions.{running}
+use Rattle.questions.specs.Answers.{rankReply, value}
+use Rattle.questions.specs.Questions.{running}
 use Rattle.theory.specs.Keeps.{TopHolder, named-top, top-not-waiting}
 use Rattle.promises.specs.Terms.{named, oldRequest}
 use Rattle.promises.specs.Weights.{lockWeight, lock-below, weight-small, lock-held}
@@ -172,7 +173,7 @@ module _ (s : State) (K : Kept s) (one : s .processors ≡ 1) where
         (λ m r o l w. runs-above j r o low high run (l .other) (omega (arith, lock-below s m r o (l .mode) (l .held), weight-small s m r o))) (omega arith))
   ]
 
-  pub running-is : rankValue (running s 0) ≡ runningRank s 0
+  pub running-is : value (rankReply (running s 0)) 0 0 ≡ runningRank s 0
   unfolding running processorRefusal
   running-is = simp (facts-well-formed s F, lt-ltb 0 (s .processors) (omega arith))
 
@@ -197,7 +198,7 @@ not-refused-step : (s : State) (k r o : ℕ) → refusal s k r o ≡ 0 → step 
 unfolding step
 not-refused-step s k r o e = simp e
 
-pub one-request : (s : State) → Kept s → s .processors ≡ 1 → (k j o : ℕ) → isRequest k ≡ true → rankValue (running s 0) ≡ j
+pub one-request : (s : State) → Kept s → s .processors ≡ 1 → (k j o : ℕ) → isRequest k ≡ true → value (rankReply (running s 0)) 0 0 ≡ j
     → paper (step s k j o .answer) .number ≢ 4 → step s k j o ≡ oldRequest s (modeOf k) j o
 one-request s K one k j o kind run ok = go (refusal s k j o) refl
   where

@@ -14,9 +14,10 @@ use Rattle.state.specs.WellFormedFacts.{facts, facts-well-formed}
 use Rattle.table.specs.Reading.{readTable}
 use Rattle.table.specs.Fresh.{Fresh, read-fresh}
 use Rattle.rule.specs.Granting.{passes, wakeable}
-use Rattle.manager.specs.Answers.{paper, rankValue}
-use Rattle.manager.specs.Refusals.{isRequest, modeOf}
-use Rattle.manager.specs.Questions.{running}
+use Rattle.manager.specs.Answers.{paper}
+use Rattle.refusals.specs.Refusals.{isRequest, modeOf}
+use Rattle.questions.specs.Answers.{rankReply, value}
+use Rattle.questions.specs.Questions.{running}
 use Rattle.theory.specs.Words.{Demand3}
 use Rattle.theory.specs.Lists.{stateAt, labelAt, demand3-of}
 use Rattle.promises.specs.Terms.{Event, outcomeOf, next, label, named, Reached, fresh, after, oldRequest}
@@ -75,7 +76,7 @@ no-second-one {s} r e = nobody-left (next s e) (no-waiting-request-passes (after
 -- "Equality with it is claimed for one state, reached from a fresh one by any events, and one request of the job that
 -- the only processor runs: the same grant or wait, the same named lock." A request is of kind 2 or 3, and not refused, the fourth answer.
 pub one-processor : {t : State} → Reached t → t .processors ≡ 1
-    → (e : Event) → isRequest (e .kind) ≡ true → rankValue (running t 0) ≡ e .rank → paper (outcomeOf t e .answer) .number ≢ 4
+    → (e : Event) → isRequest (e .kind) ≡ true → value (rankReply (running t 0)) 0 0 ≡ e .rank → paper (outcomeOf t e .answer) .number ≢ 4
     → paper (outcomeOf t e .answer) ≡ paper (oldRequest t (modeOf (e .kind)) (e .rank) (e .object) .answer)
 one-processor {t} r one e kind run ok =
     ap (λ x. paper (x .answer)) (one-request t (kept r) one (e .kind) (e .rank) (e .object) kind run ok)

@@ -23,7 +23,7 @@ use Rattle.rule.specs.Granting.{passes, reason, wakeable}
 use Rattle.manager.specs.declared.Outcome.{Outcome}
 use Rattle.manager.specs.declared.Answer.the-variants.{Granted, Waits, Refused}
 use Rattle.manager.specs.Answers.{paper}
-use Rattle.manager.specs.Refusals.{modeOf, refusal}
+use Rattle.refusals.specs.Refusals.{modeOf, refusal}
 use Rattle.manager.specs.Events.{outcome, requestMeeting, request, woken, wake, finish, accepted, step}
 use Rattle.theory.specs.Words.{Label}
 use Rattle.theory.specs.Machine.{MayRequest, Step}

@@ -11,10 +11,11 @@ use Rattle.state.specs.Facts.{Sized}
 use Rattle.table.specs.Fresh.{Fresh}
 use Rattle.rule.specs.Keys.{oldLowestKey}
 use Rattle.manager.specs.declared.Outcome.{Outcome}
-use Rattle.manager.specs.Answers.{Paper, paper, namedRank}
-use Rattle.manager.specs.Refusals.{isRequest, modeOf}
+use Rattle.manager.specs.Answers.{Paper, paper}
+use Rattle.refusals.specs.Refusals.{isRequest, modeOf}
 use Rattle.manager.specs.Events.{requestMeeting, step}
-use Rattle.manager.specs.Questions.{namedLock}
+use Rattle.questions.specs.Answers.{namedReply, value}
+use Rattle.questions.specs.Questions.{namedLock}
 use Rattle.theory.specs.Words.{Label}
 use Rattle.theory.specs.Build.{labelled}
 
@@ -67,7 +68,7 @@ label s e = labelOf (e .kind) (e .rank) (e .object) (paper (outcomeOf s e .answe
 
 -- "After an event, a job in a run names the rank that the question for its named lock then gives; 0 is nobody."
 abbrev pub named : State → ℕ → ℕ
-named s j = namedRank (namedLock s j)
+named s j = value (namedReply (namedLock s j)) 0 0
 
 -- ---- the states that are reached: "a fresh state: a well-formed one with every job idle and every object unlocked",
 -- its arrays of the lengths that the code's record always has; and each state that an event of any kind or none returns in a reached one

@@ -15,8 +15,8 @@ use Rattle.state.specs.Facts.{Facts}
 use Rattle.state.specs.WellFormedFacts.{facts-well-formed, held-object, waiting-rank}
 use Rattle.rule.specs.Keys.{keyWeight, keyHolder, keyObject, lowestKey}
 use Rattle.rule.specs.Granting.{passes, namedKey}
-use Rattle.manager.specs.Refusals.{jobRefusal}
-use Rattle.manager.specs.Questions.{namedLock}
+use Rattle.refusals.specs.Refusals.{jobRefusal}
+use Rattle.questions.specs.Questions.{namedLock}
 use Rattle.theory.specs.Machine.{View, Blocked, NamedLock, Seen}
 use Rattle.theory.specs.Key.{key-named}
 use Rattle.promises.specs.Terms.{named}

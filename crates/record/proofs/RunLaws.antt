@@ -1,12 +1,13 @@
 -- A run over the events in some bytes, partway: what is laid so far, and what is left.
 -- Assumes nothing.
-use Prim.Native.Nat.{ℕ, suc, _+_, _*_, _≤_, _<_}
+use Prim.Native.Nat.{ℕ, _+_, _*_, _≤_, _<_}
 use mathlib.Core.Path.{_≡_, refl, sym, ap, ap₂, _∙_}
 use mathlib.Core.List.{List, [], _∷_, _++_, append-assoc, append-nil}
 use native.Mathlib.Numerals.{add-one}
 use native.Mathlib.Omega.{arith}
 use lib.ListN.{length, drop, getD, length-drop}
-use lib.Seq.{length-sets, drop-cons}
+use lib.Seq.{length-sets}
+use Rattle.basics.specs.Threes.{drop-three}
 use Rattle.state.specs.declared.State.{State}
 use Rattle.manager.specs.Events.{step}
 use Rattle.record.specs.Lines.{eventLine}
@@ -36,20 +37,6 @@ run-start bytes s n buf =
       size = refl;
     }
 
--- the three bytes of the next event, and the rest
-next-event : (bytes : List ℕ) (place : ℕ) → place + 3 ≤ length bytes
-    → drop place bytes ≡ getD bytes place 0 ∷ getD bytes (place + 1) 0 ∷ getD bytes (place + 2) 0 ∷ drop (place + 3) bytes
-next-event bytes place h =
-    let one : suc place ≡ place + 1 = omega arith in
-    let two : suc (place + 1) ≡ place + 2 = omega arith in
-    let three : suc (place + 2) ≡ place + 3 = omega arith in
-    drop-cons bytes place 0 (omega arith)
-    ∙ ap (λ (k : ℕ). getD bytes place 0 ∷ drop k bytes) one
-    ∙ ap (λ (l : List ℕ). getD bytes place 0 ∷ l)
-    (drop-cons bytes (place + 1) 0 (omega arith) ∙ ap (λ (k : ℕ). getD bytes (place + 1) 0 ∷ drop k bytes) two)
-    ∙ ap (λ (l : List ℕ). getD bytes place 0 ∷ getD bytes (place + 1) 0 ∷ l)
-    (drop-cons bytes (place + 2) 0 (omega arith) ∙ ap (λ (k : ℕ). getD bytes (place + 2) 0 ∷ drop k bytes) three)
-
 -- a turn: one event more
 module _ (bytes : List ℕ) (s₀ s : State) (n₀ n : ℕ) (buf₀ buf : List ℕ) (place end : ℕ) (r : Run bytes s₀ s n₀ n buf₀ buf place end) (h : place + 3 ≤ length bytes) where
   abbrev kind : ℕ
@@ -76,12 +63,12 @@ module _ (bytes : List ℕ) (s₀ s : State) (n₀ n : ℕ) (buf₀ buf : List �
         laid = laid-is (laid-then (r .laid) l) refl (omega arith);
         lines =
             r .lines
-            ∙ ap (λ (k : List ℕ). r .text ++ eventLines s n k) (next-event bytes place h)
+            ∙ ap (λ (k : List ℕ). r .text ++ eventLines s n k) (drop-three bytes place h)
             ∙ ap (λ (k : List ℕ). r .text ++ k) (event-lines-more s n kind rank object rest
             ∙ ap₂ (λ (m : ℕ) (t : State). eventLine m kind rank object (step s kind rank object .answer) ++ eventLines t m rest) (sym (add-one n)) (sym e))
             ∙ sym (append-assoc (r .text) line (eventLines s′ (n + 1) rest));
         after =
-            r .after ∙ ap (stateAfter s) (next-event bytes place h) ∙ state-after-more s kind rank object rest ∙ ap (λ (t : State). stateAfter t rest) (sym e);
+            r .after ∙ ap (stateAfter s) (drop-three bytes place h) ∙ state-after-more s kind rank object rest ∙ ap (λ (t : State). stateAfter t rest) (sym e);
         size = ap length (l .stored) ∙ length-sets buf end line ∙ r .size;
       }
 

@@ -16,7 +16,7 @@ use Rattle.table.specs.Reading.{processorsOf, withRight, declaredIn, tableState
 use Rattle.rule.specs.Weights.{weight}
 use Rattle.rule.specs.Keys.{othersKey, objectKey, lowestKeyBy}
 use Rattle.rule.specs.Granting.{namedKey, reason, wakeable}
-use Rattle.manager.specs.Refusals.{eventRefusal, refusal}
+use Rattle.refusals.specs.Refusals.{eventRefusal, refusal}
 use Rattle.manager.specs.Events.{requestMeeting, woken, wake, accepted, step}
 use Rattle.record.specs.Lines.{decimalWithin, decimal, headerLine, eventLine, endLine, shortLine, refusedLine}
 use Rattle.record.specs.Record.{eventLines, recordOf}

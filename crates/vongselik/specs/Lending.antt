@@ -1,60 +1,20 @@
--- What the calls of the C interface answer and leave in lent memory: a refusal's number, or 0 and the values; a refusal leaves every lent byte as it was.
+-- What the table calls of the C interface answer and leave in lent memory: a refusal's number, or 0 and the values; a refusal leaves every lent byte as it was.
 -- Assumes nothing.
 use Prim.Native.Nat.{ℕ}
 use mathlib.Core.Path.{_≡_}
+use mathlib.Core.List.{[], _∷_}
 use lib.Dec.{eqb}
 use borrow.Author.Tests.{eq-eqb, ne-eqb}
 use Rattle.basics.specs.Choice.{if_then_else_}
 use Rattle.state.specs.declared.State.{State}
 use Rattle.table.specs.declared.TableRead.{TableRead}
 use Rattle.table_writer.specs.declared.Written.{Written}
-use Rattle.manager.specs.declared.RankAnswer.{RankAnswer}
-use Rattle.manager.specs.declared.NamedAnswer.{NamedAnswer}
-use Rattle.manager.specs.declared.CeilingsAnswer.{CeilingsAnswer}
+use Rattle.questions.specs.Answers.{Reply, refused, told}
 
--- ---- the refusal's number of an answer, 0 where it is not refused
-
-abbrev pub rankRefusal : RankAnswer → ℕ
-rankRefusal (RankAnswer.Rank rank) = 0
-rankRefusal (RankAnswer.Refused n) = n
-
-abbrev pub namedRefusal : NamedAnswer → ℕ
-namedRefusal (NamedAnswer.Lock holder object) = 0
-namedRefusal (NamedAnswer.Refused n) = n
-
-abbrev pub ceilingsRefusal : CeilingsAnswer → ℕ
-ceilingsRefusal (CeilingsAnswer.Ceilings write absolute) = 0
-ceilingsRefusal (CeilingsAnswer.Refused n) = n
-
-abbrev pub writtenRefusal : Written → ℕ
-writtenRefusal (Written.Length n) = 0
-writtenRefusal (Written.Refused n) = n
-
--- ---- what a lent cell holds afterwards: the answer's value, or what it held before
-
-abbrev pub rankCell : RankAnswer → ℕ → ℕ
-rankCell (RankAnswer.Rank rank) old = rank
-rankCell (RankAnswer.Refused n) old = old
-
-abbrev pub holderCell : NamedAnswer → ℕ → ℕ
-holderCell (NamedAnswer.Lock holder object) old = holder
-holderCell (NamedAnswer.Refused n) old = old
-
-abbrev pub objectCell : NamedAnswer → ℕ → ℕ
-objectCell (NamedAnswer.Lock holder object) old = object
-objectCell (NamedAnswer.Refused n) old = old
-
-abbrev pub writeCell : CeilingsAnswer → ℕ → ℕ
-writeCell (CeilingsAnswer.Ceilings write absolute) old = write
-writeCell (CeilingsAnswer.Refused n) old = old
-
-abbrev pub absoluteCell : CeilingsAnswer → ℕ → ℕ
-absoluteCell (CeilingsAnswer.Ceilings write absolute) old = absolute
-absoluteCell (CeilingsAnswer.Refused n) old = old
-
-abbrev pub writtenCell : Written → ℕ → ℕ
-writtenCell (Written.Length n) old = n
-writtenCell (Written.Refused n) old = old
+-- the refusal's number of the table writer, or 0 and the length of what it wrote
+abbrev pub writtenReply : Written → Reply
+writtenReply (Written.Length n) = told (n ∷ [])
+writtenReply (Written.Refused n) = refused n
 
 -- ---- what a table read into a lent state leaves: the state and the used count of the table, or what was there before
 

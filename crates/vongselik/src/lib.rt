@@ -4,12 +4,12 @@ ghost use Rattle.state.specs.State.{stateOf};
 ghost use Rattle.manager.specs.Events.{step};
 ghost use Rattle.vongselik.specs.Packing.{packed};
 
+mod asking;
 mod entries;
 mod packing;
-mod questions;
 mod tables;
 
-use packing::pack;
+pub use packing::pack;
 use ranks::RankSet;
 use state::JobProcessors;
 use state::JobRequests;

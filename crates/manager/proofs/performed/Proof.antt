@@ -1,6 +1,6 @@
 -- `manager::performed` meets its contract: what the rule makes of the copies is put into the state in their place.
 -- Assumes nothing.
-use Rattle.manager.specs.Accepting.{accepting}
+use Rattle.refusals.specs.Accepting.{accepting}
 use Rattle.manager.proofs.performed.Statement.{statement}
 use Rattle.manager.proofs.performed.Tie as tie
 

@@ -6,8 +6,8 @@ use Prim.Native.Nat.{ℕ}
 use Rattle.state.specs.declared.State.{State}
 use Rattle.state.specs.State.{stateOf}
 use Rattle.manager.specs.declared.Answer.the-variants.{Refused}
-use Rattle.manager.specs.Accepting.{accepting}
-use Rattle.manager.specs.Refusals as R
+use Rattle.refusals.specs.Accepting.{accepting}
+use Rattle.refusals.specs.Refusals as R
 use Rattle.manager.specs.Events.{outcome}
 use Rattle.manager.proofs.EventLaws.{step-refused, step-accepted}
 use borrow.Author.Needs.{needs}

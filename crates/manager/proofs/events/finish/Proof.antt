@@ -3,7 +3,7 @@
 use denote.Ref.{now}
 use mathlib.Core.Path.{sym, subst, _∙_}
 use Rattle.state.specs.State.{stateOf, endRun}
-use Rattle.manager.specs.Accepting.{RequestsFit}
+use Rattle.refusals.specs.Accepting.{RequestsFit}
 use Rattle.manager.specs.Events as E
 use Rattle.manager.proofs.EventLaws.{dropped-fits}
 use borrow.Author.Needs.{needs}

@@ -1,0 +1,2 @@
+-- The answers to a list of events as one number.
+pub mod Mixing

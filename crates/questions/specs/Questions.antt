@@ -1,0 +1,27 @@
+-- The questions: a job's inherited rank and named lock, an object's ceilings, the rank that a processor runs (01, "Refusals").
+-- Assumes nothing.
+use Prim.Native.Nat.{ℕ}
+use lib.Dec.{eqb}
+use Rattle.basics.specs.Choice.{if_then_else_}
+use Rattle.state.specs.declared.State.{State}
+use Rattle.rule.specs.Weights.{writeCeiling, absoluteCeiling}
+use Rattle.rule.specs.Granting.{namedHolder, namedObject}
+use Rattle.rule.specs.Running as R
+use Rattle.questions.specs.declared.RankAnswer.{RankAnswer}
+use Rattle.questions.specs.declared.NamedAnswer.{NamedAnswer}
+use Rattle.questions.specs.declared.CeilingsAnswer.{CeilingsAnswer}
+use Rattle.refusals.specs.Refusals.{jobRefusal, objectRefusal, processorRefusal}
+
+unfoldable pub inheritedRank : State → ℕ → RankAnswer
+inheritedRank s r = if eqb (jobRefusal s r) 0 then RankAnswer.Rank (R.inheritedRank s r) else RankAnswer.Refused (jobRefusal s r)
+
+unfoldable pub namedLock : State → ℕ → NamedAnswer
+namedLock s r = if eqb (jobRefusal s r) 0 then NamedAnswer.Lock (namedHolder s r) (namedObject s r) else NamedAnswer.Refused (jobRefusal s r)
+
+unfoldable pub ceilings : State → ℕ → CeilingsAnswer
+ceilings s o =
+    if eqb (objectRefusal s o) 0 then CeilingsAnswer.Ceilings (writeCeiling s o) (absoluteCeiling s o)
+    else CeilingsAnswer.Refused (objectRefusal s o)
+
+unfoldable pub running : State → ℕ → RankAnswer
+running s p = if eqb (processorRefusal s p) 0 then RankAnswer.Rank (R.runningRank s p) else RankAnswer.Refused (processorRefusal s p)

@@ -1,0 +1,204 @@
+// The questions, on the parts of a state.
+ghost use mathlib.Core.Path.{_≡_};
+ghost use Rattle.state.specs.State.{stateOf};
+ghost use Rattle.questions.specs.Questions as Q;
+use crate::CeilingsAnswer;
+use crate::NamedAnswer;
+use crate::RankAnswer;
+use refusals::job_refusal;
+use refusals::object_refusal;
+use refusals::processor_refusal;
+use refusals::set_of;
+use ranks::RankSet;
+use state::JobProcessors;
+use state::JobRequests;
+use state::ObjectSets;
+use state::fits;
+
+// A job's inherited rank: the most urgent of its own and those of the waiting jobs that name it.
+pub fn ask_inherited_rank<'a>(
+    processors: u8,
+    jobs: u8,
+    objects: u8,
+    processor_of: &'a JobProcessors,
+    may_read: &'a ObjectSets,
+    may_write: &'a ObjectSets,
+    active: RankSet,
+    unlocked: RankSet,
+    readers: &'a ObjectSets,
+    writers: &'a ObjectSets,
+    request: &'a JobRequests,
+    rank: u8,
+) -> RankAnswer
+    ensures { λ r. ⌜ r ≡ Q.inheritedRank (stateOf processors jobs objects (now («processor_of» .entry)) (now («may_read» .entry)) (now («may_write» .entry))
+        active unlocked (now (readers .entry)) (now (writers .entry)) (now (request .entry))) rank ⌝ }
+{
+    let well = fits(
+        processors,
+        jobs,
+        objects,
+        processor_of,
+        may_read,
+        may_write,
+        active,
+        unlocked,
+        readers,
+        writers,
+        request,
+    );
+    let number = job_refusal(well, jobs, active, rank);
+    if number != 0 {
+        return RankAnswer::Refused(number);
+    }
+    RankAnswer::Rank(rule::inherited_rank(
+        jobs,
+        objects,
+        may_read,
+        may_write,
+        readers,
+        writers,
+        request,
+        rank,
+    ))
+}
+
+// The lock that a job names: its holder and object, 0 and 0 if it names nobody.
+pub fn ask_named_lock<'a>(
+    processors: u8,
+    jobs: u8,
+    objects: u8,
+    processor_of: &'a JobProcessors,
+    may_read: &'a ObjectSets,
+    may_write: &'a ObjectSets,
+    active: RankSet,
+    unlocked: RankSet,
+    readers: &'a ObjectSets,
+    writers: &'a ObjectSets,
+    request: &'a JobRequests,
+    rank: u8,
+) -> NamedAnswer
+    ensures { λ r. ⌜ r ≡ Q.namedLock (stateOf processors jobs objects (now («processor_of» .entry)) (now («may_read» .entry)) (now («may_write» .entry))
+        active unlocked (now (readers .entry)) (now (writers .entry)) (now (request .entry))) rank ⌝ }
+{
+    let well = fits(
+        processors,
+        jobs,
+        objects,
+        processor_of,
+        may_read,
+        may_write,
+        active,
+        unlocked,
+        readers,
+        writers,
+        request,
+    );
+    let number = job_refusal(well, jobs, active, rank);
+    if number != 0 {
+        return NamedAnswer::Refused(number);
+    }
+    let key = rule::named_key(
+        objects,
+        may_read,
+        may_write,
+        readers,
+        writers,
+        request[(rank - 1) as usize],
+        rank,
+    );
+    let holder = rule::key_holder(key);
+    let object = rule::key_object(key);
+    NamedAnswer::Lock { holder, object }
+}
+
+// An object's write ceiling and absolute ceiling.
+pub fn ask_ceilings<'a>(
+    processors: u8,
+    jobs: u8,
+    objects: u8,
+    processor_of: &'a JobProcessors,
+    may_read: &'a ObjectSets,
+    may_write: &'a ObjectSets,
+    active: RankSet,
+    unlocked: RankSet,
+    readers: &'a ObjectSets,
+    writers: &'a ObjectSets,
+    request: &'a JobRequests,
+    object: u8,
+) -> CeilingsAnswer
+    ensures { λ r. ⌜ r ≡ Q.ceilings (stateOf processors jobs objects (now («processor_of» .entry)) (now («may_read» .entry)) (now («may_write» .entry))
+        active unlocked (now (readers .entry)) (now (writers .entry)) (now (request .entry))) object ⌝ }
+{
+    let well = fits(
+        processors,
+        jobs,
+        objects,
+        processor_of,
+        may_read,
+        may_write,
+        active,
+        unlocked,
+        readers,
+        writers,
+        request,
+    );
+    let number = object_refusal(well, objects, object);
+    if number != 0 {
+        return CeilingsAnswer::Refused(number);
+    }
+    let write = set_of(may_write, object);
+    let either = ranks::union(set_of(may_read, object), write);
+    CeilingsAnswer::Ceilings {
+        write: rule::ceiling(write),
+        absolute: rule::ceiling(either),
+    }
+}
+
+// The rank that a processor runs, 0 if it is idle.
+pub fn ask_running<'a>(
+    processors: u8,
+    jobs: u8,
+    objects: u8,
+    processor_of: &'a JobProcessors,
+    may_read: &'a ObjectSets,
+    may_write: &'a ObjectSets,
+    active: RankSet,
+    unlocked: RankSet,
+    readers: &'a ObjectSets,
+    writers: &'a ObjectSets,
+    request: &'a JobRequests,
+    processor: u8,
+) -> RankAnswer
+    ensures { λ r. ⌜ r ≡ Q.running (stateOf processors jobs objects (now («processor_of» .entry)) (now («may_read» .entry)) (now («may_write» .entry))
+        active unlocked (now (readers .entry)) (now (writers .entry)) (now (request .entry))) processor ⌝ }
+{
+    let well = fits(
+        processors,
+        jobs,
+        objects,
+        processor_of,
+        may_read,
+        may_write,
+        active,
+        unlocked,
+        readers,
+        writers,
+        request,
+    );
+    let number = processor_refusal(well, processors, processor);
+    if number != 0 {
+        return RankAnswer::Refused(number);
+    }
+    RankAnswer::Rank(rule::running_rank(
+        jobs,
+        objects,
+        processor_of,
+        active,
+        may_read,
+        may_write,
+        readers,
+        writers,
+        request,
+        processor,
+    ))
+}

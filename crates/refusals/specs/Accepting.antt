@@ -1,0 +1,98 @@
+-- What an event that is not refused may count on: its numbers are in range, and so are those of the waiting jobs' requests.
+-- Assumes nothing.
+use mathlib.Core.Path.{_≡_}
+use mathlib.Core.Logic.{_≢_}
+use mathlib.Core.Bool.{true, not, _&&_}
+use mathlib.Core.List.{List}
+use Prim.Native.Nat.{ℕ, _≤_}
+use native.Mathlib.Omega.{arith}
+use borrow.Author.Tests.{ne-eqb, not-false}
+use Rattle.basics.specs.Choice.{between, and-left, and-right, between-true, if-zero}
+use Rattle.basics.specs.Loops.{every-at}
+use Rattle.basics.specs.Arrays.{at}
+use Rattle.ranks.specs.Ranks.{limit}
+use Rattle.state.specs.declared.State.{State}
+use Rattle.state.specs.State.{mostObjects, isRank, isObject, isActive, hasUnlocked, mayLock, holdsAlready, requestOf, objectIn, requestedMode, requestedObject}
+use Rattle.state.specs.WellFormed.{mayAwait, waitFits, waitsFit, wellFormed}
+use Rattle.state.specs.Clauses.{clauses, counts-within}
+use Rattle.refusals.specs.Refusals.{objectAllowed, eventRefusal, refusal, jobRefusal, objectRefusal, processorRefusal}
+
+-- each waiting job asks for an object that the arrays have
+abbrev pub RequestsFit : List ℕ → Type 0
+RequestsFit requests = (r : ℕ) → 1 ≤ r → r ≤ limit → at requests r ≢ 0 → (1 ≤ objectIn (at requests r)) × (objectIn (at requests r) ≤ mostObjects)
+
+pub record Accepting (jobs objects : ℕ) (requests : List ℕ) (k r o : ℕ) : Type 0 where
+  pub jobs-fit : jobs ≤ limit
+  pub objects-fit : objects ≤ mostObjects
+  pub kind : (1 ≤ k) × (k ≤ 6)
+  pub rank : (1 ≤ r) × (r ≤ limit)
+  pub object : between 2 4 k ≡ true → (1 ≤ o) × (o ≤ mostObjects)
+  pub requests-fit : RequestsFit requests
+
+requested-object : (s : State) (m r o : ℕ) → mayAwait s m r o ≡ true → isObject s o ≡ true
+requested-object s m r o e =
+    let two = between 1 2 m && isObject s o in
+    let three = two && isActive s r in
+    let four = three && not (hasUnlocked s r) in
+    let five = four && mayLock s m r o in
+    and-right (between 1 2 m) (isObject s o)
+    (and-left two (isActive s r) (and-left three (not (hasUnlocked s r)) (and-left four (mayLock s m r o) (and-left five (not (holdsAlready s m r o)) e))))
+
+pub well-requests : (s : State) → wellFormed s ≡ true → RequestsFit (s .request)
+unfolding waitsFit
+well-requests s w r a b d =
+    let c = clauses s w in
+    let n = counts-within (s .processors) (s .jobs) (s .objects) (c .counts) in
+    let fit = simp (ne-eqb (requestOf s r) 0 d) at (every-at limit (waitFits s) r (c .waits) a b) in
+    let o = between-true 1 (s .objects) (requestedObject s r) (requested-object s (requestedMode s r) r (requestedObject s r) fit) in
+    (o .0, omega (arith, o .1, n .objects))
+
+pub accepting : (s : State) (k r o : ℕ) → refusal s k r o ≡ 0 → Accepting (s .jobs) (s .objects) (s .request) k r o
+unfolding refusal eventRefusal
+accepting s k r o e =
+    let e8 = if-zero 7 (not (wellFormed s)) _ e in
+    let e9 = if-zero 8 (not (between 1 6 k)) _ (e8 .1) in
+    let e10 = if-zero 9 (not (isRank s r)) _ (e9 .1) in
+    let e11 = if-zero 10 (not (objectAllowed (s .objects) k o)) _ (e10 .1) in
+    let w = not-false (wellFormed s) (e8 .0) in
+    let n = counts-within (s .processors) (s .jobs) (s .objects) (clauses s w .counts) in
+    let rank = between-true 1 (s .jobs) r (not-false (isRank s r) (e10 .0)) in
+    record {
+      jobs-fit = n .jobs .1;
+      objects-fit = n .objects .1;
+      kind = between-true 1 6 k (not-false (between 1 6 k) (e9 .0));
+      rank = (rank .0, omega (arith, rank .1, n .jobs));
+      object = λ b. (let z = between-true 1 (s .objects) o (simp b at (not-false (objectAllowed (s .objects) k o) (e11 .0))) in (z .0, omega (arith, z .1, n .objects)));
+      requests-fit = well-requests s w;
+    }
+
+-- ---- what a question that is not refused may count on
+
+pub record Asking (s : State) : Type 0 where
+  pub jobs-fit : s .jobs ≤ limit
+  pub objects-fit : s .objects ≤ mostObjects
+
+pub asking : (s : State) → wellFormed s ≡ true → Asking s
+asking s w =
+    let n = counts-within (s .processors) (s .jobs) (s .objects) (clauses s w .counts) in
+    record { jobs-fit = n .jobs .1; objects-fit = n .objects .1 }
+
+pub job-asking : (s : State) (r : ℕ) → jobRefusal s r ≡ 0 → Asking s × ((1 ≤ r) × (r ≤ limit))
+unfolding jobRefusal
+job-asking s r e =
+    let e8 = if-zero 7 (not (wellFormed s)) _ e in
+    let e10 = if-zero 9 (not (isRank s r)) _ (e8 .1) in
+    let a = asking s (not-false (wellFormed s) (e8 .0)) in
+    let rank = between-true 1 (s .jobs) r (not-false (isRank s r) (e10 .0)) in
+    (a, (rank .0, omega (arith, rank .1, a .jobs-fit)))
+
+pub object-asking : (s : State) (o : ℕ) → objectRefusal s o ≡ 0 → o ≤ mostObjects
+unfolding objectRefusal
+object-asking s o e =
+    let e8 = if-zero 7 (not (wellFormed s)) _ e in
+    let e11 = if-zero 10 (not (isObject s o)) _ (e8 .1) in
+    omega (arith, between-true 1 (s .objects) o (not-false (isObject s o) (e11 .0)), asking s (not-false (wellFormed s) (e8 .0)) .objects-fit)
+
+pub processor-asking : (s : State) (p : ℕ) → processorRefusal s p ≡ 0 → Asking s
+unfolding processorRefusal
+processor-asking s p e = asking s (not-false (wellFormed s) (if-zero 7 (not (wellFormed s)) _ e .0))

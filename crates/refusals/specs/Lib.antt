@@ -1,0 +1,3 @@
+-- The refusals 8 to 19 of events and questions, and what may be counted on where there is none.
+pub mod Refusals
+pub mod Accepting

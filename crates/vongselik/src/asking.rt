@@ -1,0 +1,207 @@
+// The questions, on the lent parts of a state: each answers the refusal's number, or 0 and its values in lent cells.
+ghost use mathlib.Core.Path.{_≡_};
+ghost use Rattle.state.specs.State.{stateOf};
+ghost use Rattle.questions.specs.Questions as Q;
+ghost use Rattle.questions.specs.Answers.{rankReply, namedReply, ceilingsReply, value};
+use questions::CeilingsAnswer;
+use questions::NamedAnswer;
+use questions::RankAnswer;
+use questions::ask_ceilings;
+use questions::ask_inherited_rank;
+use questions::ask_named_lock;
+use questions::ask_running;
+use ranks::RankSet;
+use state::JobProcessors;
+use state::JobRequests;
+use state::ObjectSets;
+
+// A job's inherited rank. Refused by 8, 10, 13.
+#[no_mangle]
+pub extern "C" fn vongselik_parts_inherited_rank<'a>(
+    processors: u8,
+    jobs: u8,
+    objects: u8,
+    processor_of: &'a JobProcessors,
+    may_read: &'a ObjectSets,
+    may_write: &'a ObjectSets,
+    active: RankSet,
+    unlocked: RankSet,
+    readers: &'a ObjectSets,
+    writers: &'a ObjectSets,
+    request: &'a JobRequests,
+    rank: u8,
+    inherited: &mut u8,
+) -> u8
+    ensures number { λ r. ⌜ r ≡ rankReply (Q.inheritedRank (stateOf processors jobs objects (now («processor_of» .entry)) (now («may_read» .entry)) (now («may_write» .entry))
+        active unlocked (now (readers .entry)) (now (writers .entry)) (now (request .entry))) rank) .refusal ⌝ }
+    ensures inherited { λ _. ⌜ now (inherited .exit) ≡ value (rankReply (Q.inheritedRank (stateOf processors jobs objects (now («processor_of» .entry)) (now («may_read» .entry)) (now («may_write» .entry))
+        active unlocked (now (readers .entry)) (now (writers .entry)) (now (request .entry))) rank)) 0 (now (inherited .entry)) ⌝ }
+{
+    let answer = ask_inherited_rank(
+        processors,
+        jobs,
+        objects,
+        processor_of,
+        may_read,
+        may_write,
+        active,
+        unlocked,
+        readers,
+        writers,
+        request,
+        rank,
+    );
+    match answer {
+        RankAnswer::Rank(value) => {
+            *inherited = value;
+            0
+        }
+        RankAnswer::Refused(number) => number,
+    }
+}
+
+// The lock that a job names: its holder and object, 0 and 0 if it names nobody. Refused by 8, 10, 13.
+#[no_mangle]
+pub extern "C" fn vongselik_parts_named_lock<'a>(
+    processors: u8,
+    jobs: u8,
+    objects: u8,
+    processor_of: &'a JobProcessors,
+    may_read: &'a ObjectSets,
+    may_write: &'a ObjectSets,
+    active: RankSet,
+    unlocked: RankSet,
+    readers: &'a ObjectSets,
+    writers: &'a ObjectSets,
+    request: &'a JobRequests,
+    rank: u8,
+    holder: &mut u8,
+    object: &mut u8,
+) -> u8
+    ensures number { λ r. ⌜ r ≡ namedReply (Q.namedLock (stateOf processors jobs objects (now («processor_of» .entry)) (now («may_read» .entry)) (now («may_write» .entry))
+        active unlocked (now (readers .entry)) (now (writers .entry)) (now (request .entry))) rank) .refusal ⌝ }
+    ensures holder { λ _. ⌜ now (holder .exit) ≡ value (namedReply (Q.namedLock (stateOf processors jobs objects (now («processor_of» .entry)) (now («may_read» .entry)) (now («may_write» .entry))
+        active unlocked (now (readers .entry)) (now (writers .entry)) (now (request .entry))) rank)) 0 (now (holder .entry)) ⌝ }
+    ensures object { λ _. ⌜ now (object .exit) ≡ value (namedReply (Q.namedLock (stateOf processors jobs objects (now («processor_of» .entry)) (now («may_read» .entry)) (now («may_write» .entry))
+        active unlocked (now (readers .entry)) (now (writers .entry)) (now (request .entry))) rank)) 1 (now (object .entry)) ⌝ }
+{
+    let answer = ask_named_lock(
+        processors,
+        jobs,
+        objects,
+        processor_of,
+        may_read,
+        may_write,
+        active,
+        unlocked,
+        readers,
+        writers,
+        request,
+        rank,
+    );
+    match answer {
+        NamedAnswer::Lock {
+            holder: named_holder,
+            object: named_object,
+        } => {
+            *holder = named_holder;
+            *object = named_object;
+            0
+        }
+        NamedAnswer::Refused(number) => number,
+    }
+}
+
+// An object's write ceiling and absolute ceiling. Refused by 8, 11.
+#[no_mangle]
+pub extern "C" fn vongselik_parts_ceilings<'a>(
+    processors: u8,
+    jobs: u8,
+    objects: u8,
+    processor_of: &'a JobProcessors,
+    may_read: &'a ObjectSets,
+    may_write: &'a ObjectSets,
+    active: RankSet,
+    unlocked: RankSet,
+    readers: &'a ObjectSets,
+    writers: &'a ObjectSets,
+    request: &'a JobRequests,
+    object: u8,
+    write_ceiling: &mut u16,
+    absolute_ceiling: &mut u16,
+) -> u8
+    ensures number { λ r. ⌜ r ≡ ceilingsReply (Q.ceilings (stateOf processors jobs objects (now («processor_of» .entry)) (now («may_read» .entry)) (now («may_write» .entry))
+        active unlocked (now (readers .entry)) (now (writers .entry)) (now (request .entry))) object) .refusal ⌝ }
+    ensures write { λ _. ⌜ now («write_ceiling» .exit) ≡ value (ceilingsReply (Q.ceilings (stateOf processors jobs objects (now («processor_of» .entry)) (now («may_read» .entry)) (now («may_write» .entry))
+        active unlocked (now (readers .entry)) (now (writers .entry)) (now (request .entry))) object)) 0 (now («write_ceiling» .entry)) ⌝ }
+    ensures absolute { λ _. ⌜ now («absolute_ceiling» .exit) ≡ value (ceilingsReply (Q.ceilings (stateOf processors jobs objects (now («processor_of» .entry)) (now («may_read» .entry)) (now («may_write» .entry))
+        active unlocked (now (readers .entry)) (now (writers .entry)) (now (request .entry))) object)) 1 (now («absolute_ceiling» .entry)) ⌝ }
+{
+    let answer = ask_ceilings(
+        processors,
+        jobs,
+        objects,
+        processor_of,
+        may_read,
+        may_write,
+        active,
+        unlocked,
+        readers,
+        writers,
+        request,
+        object,
+    );
+    match answer {
+        CeilingsAnswer::Ceilings { write, absolute } => {
+            *write_ceiling = write;
+            *absolute_ceiling = absolute;
+            0
+        }
+        CeilingsAnswer::Refused(number) => number,
+    }
+}
+
+// The rank that a processor runs, 0 if it is idle. Refused by 8, 19.
+#[no_mangle]
+pub extern "C" fn vongselik_parts_running<'a>(
+    processors: u8,
+    jobs: u8,
+    objects: u8,
+    processor_of: &'a JobProcessors,
+    may_read: &'a ObjectSets,
+    may_write: &'a ObjectSets,
+    active: RankSet,
+    unlocked: RankSet,
+    readers: &'a ObjectSets,
+    writers: &'a ObjectSets,
+    request: &'a JobRequests,
+    processor: u8,
+    rank: &mut u8,
+) -> u8
+    ensures number { λ r. ⌜ r ≡ rankReply (Q.running (stateOf processors jobs objects (now («processor_of» .entry)) (now («may_read» .entry)) (now («may_write» .entry))
+        active unlocked (now (readers .entry)) (now (writers .entry)) (now (request .entry))) processor) .refusal ⌝ }
+    ensures rank { λ _. ⌜ now (rank .exit) ≡ value (rankReply (Q.running (stateOf processors jobs objects (now («processor_of» .entry)) (now («may_read» .entry)) (now («may_write» .entry))
+        active unlocked (now (readers .entry)) (now (writers .entry)) (now (request .entry))) processor)) 0 (now (rank .entry)) ⌝ }
+{
+    let answer = ask_running(
+        processors,
+        jobs,
+        objects,
+        processor_of,
+        may_read,
+        may_write,
+        active,
+        unlocked,
+        readers,
+        writers,
+        request,
+        processor,
+    );
+    match answer {
+        RankAnswer::Rank(value) => {
+            *rank = value;
+            0
+        }
+        RankAnswer::Refused(number) => number,
+    }
+}
