@@ -175,7 +175,7 @@ fn finish<'a>(
 }
 
 // An event that is not refused.
-pub fn perform<'a>(
+fn perform<'a>(
     jobs: u8,
     objects: u8,
     may_read: &'a ObjectSets,

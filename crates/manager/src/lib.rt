@@ -1,14 +1,11 @@
 // The lock manager: what an event does to a state.
 ghost use mathlib.Core.Path.{_≡_};
-ghost use Rattle.refusals.specs.Refusals as R;
-ghost use Rattle.manager.specs.Events.{accepted, step};
+ghost use Rattle.manager.specs.Events.{step};
 
 mod changes;
 mod events;
 
 pub use events::act;
-use events::perform;
-use refusals::refusal;
 use state::State;
 
 // An event's answer: granted; waits for the lock of a holder on an object, with the reason; done, with the woken rank or 0; refused, with its number.
@@ -25,19 +22,20 @@ pub struct Outcome {
     pub state: State,
 }
 
-// The answer and the next state of an event that is not refused: the rules run on copies of the parts that they change.
-fn performed(state: State, kind: u8, rank: u8, object: u8) -> Outcome
-    requires { ⌜ R.refusal state kind rank object ≡ 0 ⌝ }
-    ensures { λ r. ⌜ r ≡ accepted state kind rank object ⌝ }
+// An event: its answer and the next state; a refusal returns the state handed in. The parts that an event may change are copied, and `act` runs on the copies.
+pub fn event(state: State, kind: u8, rank: u8, object: u8) -> Outcome
+    ensures { λ r. ⌜ r ≡ step state kind rank object ⌝ }
 {
     let mut active = state.active;
     let mut unlocked = state.unlocked;
     let mut readers = state.readers;
     let mut writers = state.writers;
     let mut request = state.request;
-    let answer = perform(
+    let answer = act(
+        state.processors,
         state.jobs,
         state.objects,
+        &state.processor_of,
         &state.may_read,
         &state.may_write,
         &mut active,
@@ -59,33 +57,4 @@ fn performed(state: State, kind: u8, rank: u8, object: u8) -> Outcome
         answer,
         state: next,
     }
-}
-
-// An event: its answer and the next state; a refusal returns the state handed in.
-pub fn event(state: State, kind: u8, rank: u8, object: u8) -> Outcome
-    ensures { λ r. ⌜ r ≡ step state kind rank object ⌝ }
-{
-    let number = refusal(
-        state.processors,
-        state.jobs,
-        state.objects,
-        &state.processor_of,
-        &state.may_read,
-        &state.may_write,
-        state.active,
-        state.unlocked,
-        &state.readers,
-        &state.writers,
-        &state.request,
-        kind,
-        rank,
-        object,
-    );
-    if number != 0 {
-        return Outcome {
-            answer: Answer::Refused(number),
-            state,
-        };
-    }
-    performed(state, kind, rank, object)
 }
