@@ -1,9 +1,10 @@
 -- Arrays whose elements count from 1: element 0, and an element past the last, is 0, and a store there changes nothing.
 -- Assumes nothing.
 use mathlib.Core.Path.{_≡_, refl, sym, ap, _∙_}
-use mathlib.Core.Logic.{_≢_}
+use mathlib.Core.Logic.{_≢_, _⊎_, inl, inr}
 use mathlib.Core.List.{List, [], _∷_, _++_}
 use Prim.Native.Nat.{ℕ, zero, suc, _+_, _-_, _≤_, _<_}
+use native.Mathlib.Nat.{eq-or-lt-of-le}
 use native.Mathlib.Numerals.{add-one}
 use native.Mathlib.Omega.{arith}
 use native.Mathlib.Decide.{decLe}
@@ -49,6 +50,21 @@ at-out xs n (suc i) e d = List·getD-eq-default xs 0 (outside (decLe n i))
     outside : Dec (n ≤ i) → length xs ≤ i
     outside (yes l) = omega arith
     outside (no l) = absurd (d (omega arith))
+
+-- element n + 1 stands at n
+pub at-next : (xs : List ℕ) (n : ℕ) → at xs (n + 1) ≡ getD xs n 0
+at-next xs n = rw add-one
+
+-- one element more that is what it should be
+pub stored : (xs : List ℕ) (n v : ℕ) (f : ℕ → ℕ) → n < length xs → v ≡ f (n + 1) → ((k : ℕ) → 1 ≤ k → k ≤ n → at xs k ≡ f k)
+    → (k : ℕ) → 1 ≤ k → k ≤ n + 1 → at (set xs n v) k ≡ f k
+stored xs n v f h e below k a b = go (eq-or-lt-of-le b)
+  where
+    go : (k ≡ n + 1) ⊎ (k < n + 1) → at (set xs n v) k ≡ f k
+    go (inl q) =
+        let here : k ≡ suc n = q ∙ add-one n in
+        ap (at (set xs n v)) here ∙ at-put-same xs (suc n) v (omega arith) h ∙ e ∙ ap f (sym q)
+    go (inr l) = at-put-other xs (suc n) v k (λ q. omega arith) ∙ below k a (omega arith)
 
 -- ---- an array gone through f
 

@@ -17,8 +17,8 @@ use Rattle.table.specs.Reading.{processorsOf, withRight, declaredIn, tableState
 use Rattle.rule.specs.Weights.{weight}
 use Rattle.rule.specs.Keys.{othersKey, objectKey, lowestKeyBy}
 use Rattle.rule.specs.Granting.{namedKey, reason, wakeable}
-use Rattle.rule.specs.Running as R
-use Rattle.rule.specs.Running.{runningRank}
+use Rattle.inheritance.specs.Running as R
+use Rattle.inheritance.specs.Running.{runningRank}
 use Rattle.questions.specs.declared.RankAnswer.{RankAnswer}
 use Rattle.questions.specs.declared.RankAnswer.the-variants.{Rank}
 use Rattle.manager.specs.Answers.{Paper, paper}

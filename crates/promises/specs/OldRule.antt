@@ -21,8 +21,8 @@ use Rattle.rule.specs.Weights.{writeCeiling, absoluteCeiling, moreUrgent, weigh
 use Rattle.rule.specs.Keys.{noKey, keyWeight, keyHolder, lowestKey, oldLowestKey}
 use Rattle.rule.specs.KeyLaws.{OthersLock, KeyOfOther, key-below, key-top, key-at, le-key}
 use Rattle.rule.specs.Granting.{passes, oldPasses, namedKey}
-use Rattle.rule.specs.Running as R
-use Rattle.rule.specs.Running.{inheritedFrom, isReady, readyKey, runningRank}
+use Rattle.inheritance.specs.Running as R
+use Rattle.inheritance.specs.Running.{inheritedFrom, isReady, readyKey, runningRank}
 use Rattle.manager.specs.Answers.{paper}
 use Rattle.refusals.specs.Refusals.{isRequest, modeOf, refusal, processorRefusal}
 use Rattle.manager.specs.Events.{requestMeeting, request, accepted, step}

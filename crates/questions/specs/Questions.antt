@@ -6,7 +6,7 @@ use Rattle.basics.specs.Choice.{if_then_else_}
 use Rattle.state.specs.declared.State.{State}
 use Rattle.rule.specs.Weights.{writeCeiling, absoluteCeiling}
 use Rattle.rule.specs.Granting.{namedHolder, namedObject}
-use Rattle.rule.specs.Running as R
+use Rattle.inheritance.specs.Running as R
 use Rattle.questions.specs.declared.RankAnswer.{RankAnswer}
 use Rattle.questions.specs.declared.NamedAnswer.{NamedAnswer}
 use Rattle.questions.specs.declared.CeilingsAnswer.{CeilingsAnswer}

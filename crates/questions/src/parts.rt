@@ -50,7 +50,7 @@ pub fn ask_inherited_rank<'a>(
     if number != 0 {
         return RankAnswer::Refused(number);
     }
-    RankAnswer::Rank(rule::inherited_rank(
+    RankAnswer::Rank(inheritance::inherited_rank(
         jobs,
         objects,
         may_read,
@@ -189,7 +189,7 @@ pub fn ask_running<'a>(
     if number != 0 {
         return RankAnswer::Refused(number);
     }
-    RankAnswer::Rank(rule::running_rank(
+    RankAnswer::Rank(inheritance::running_rank(
         jobs,
         objects,
         processor_of,

@@ -18,7 +18,8 @@ use Rattle.rule.specs.Weights.{ceilingOf}
 use Rattle.rule.specs.Keys.{noKey, lowestKey}
 use Rattle.rule.specs.Granting.{passesBelow, passes, wakes, namedKeyOf, reasonOf}
 use Rattle.rule.specs.Parts.{keyAt, waitsState}
-use Rattle.rule.proofs.Steps.{at-next, waits-key}
+use Rattle.basics.specs.Arrays.{at-next}
+use Rattle.rule.proofs.Steps.{waits-key}
 
 -- ---- the named key
 

@@ -1,10 +1,8 @@
--- The rule of 1PI-RWPCP: ceilings and weights, keys, who is named and why, who is woken, inherited ranks and the running job.
+-- The rule of 1PI-RWPCP: ceilings and weights, keys, who is named and why, who is woken.
 pub mod Weights
 pub mod Keys
 pub mod KeyLaws
 pub mod ObjectKeys
 pub mod Granting
 pub mod WakeLaws
-pub mod Running
-pub mod Inheriting
 pub mod Parts

@@ -12,7 +12,6 @@ use Rattle.rule.specs.Weights.{weight}
 use Rattle.rule.specs.Keys.{noKey, othersKey, objectKey, lowestKey, lowestKeyBy}
 use Rattle.rule.specs.ObjectKeys.{objectKeyOf, object-key-sets}
 use Rattle.rule.specs.Granting.{namedKeyOf, namedKey, namedHolder, reasonOf, reason, wakeable}
-use Rattle.rule.specs.Running.{inheritedRank, runningRank}
 
 -- a state with these declarations and locks on so many objects
 abbrev pub locksState : ℕ → List ℕ → List ℕ → List ℕ → List ℕ → State
@@ -22,21 +21,12 @@ locksState objects mayRead mayWrite readers writers = stateOf 0 0 objects [] may
 abbrev pub waitsState : ℕ → ℕ → List ℕ → List ℕ → List ℕ → List ℕ → List ℕ → State
 waitsState jobs objects mayRead mayWrite readers writers request = stateOf 0 jobs objects [] mayRead mayWrite 0 0 readers writers request
 
--- and with the jobs' processors and these active ones
-abbrev pub runState : ℕ → ℕ → List ℕ → ℕ → List ℕ → List ℕ → List ℕ → List ℕ → List ℕ → State
-runState jobs objects processorOf active mayRead mayWrite readers writers request =
-    stateOf 0 jobs objects processorOf mayRead mayWrite active 0 readers writers request
-
 -- a state's parts
 abbrev pub locksOf : State → State
 locksOf s = locksState (s .objects) (s .«may_read») (s .«may_write») (s .readers) (s .writers)
 
 abbrev pub waitsOf : State → State
 waitsOf s = waitsState (s .jobs) (s .objects) (s .«may_read») (s .«may_write») (s .readers) (s .writers) (s .request)
-
-abbrev pub runOf : State → State
-runOf s =
-    runState (s .jobs) (s .objects) (s .«processor_of») (s .active) (s .«may_read») (s .«may_write») (s .readers) (s .writers) (s .request)
 
 -- the lowest key among the locks that others than j hold on o, by the arrays of the objects' sets
 unfoldable pub keyAt : List ℕ → List ℕ → List ℕ → List ℕ → ℕ → ℕ → ℕ
@@ -63,14 +53,6 @@ reason-parts s m o h p = refl
 pub wakeable-parts : (s : State) → wakeable s ≡ wakeable (waitsOf s)
 unfolding lowestKeyBy objectKey othersKey weight wakeable
 wakeable-parts s = refl
-
-pub inherited-rank-parts : (s : State) (j : ℕ) → inheritedRank s j ≡ inheritedRank (waitsOf s) j
-unfolding lowestKeyBy objectKey othersKey weight namedKey inheritedRank
-inherited-rank-parts s j = refl
-
-pub running-rank-parts : (s : State) (p : ℕ) → runningRank s p ≡ runningRank (runOf s) p
-unfolding lowestKeyBy objectKey othersKey weight namedKey inheritedRank runningRank
-running-rank-parts s p = refl
 
 -- ---- one object more
 

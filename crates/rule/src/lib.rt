@@ -1,9 +1,5 @@
-// The rule of 1PI-RWPCP: ceilings, weights, the lock that stops a request, the wake search, inherited ranks, the running job.
+// The rule of 1PI-RWPCP: ceilings, weights, the lock that stops a request, the wake search.
 // A function sees the parts of a state that it asks about: an object's sets of ranks by value, a rank's or an object's array by reference.
-mod running;
-
-pub use running::inherited_rank;
-pub use running::running_rank;
 ghost use mathlib.Core.Path.{_≡_};
 ghost use Prim.Native.Nat.{_≤_, min};
 ghost use Rattle.ranks.specs.Ranks.{limit};
@@ -18,7 +14,7 @@ use state::JobRequests;
 use state::ObjectSets;
 
 // The key of no lock: above the key of every lock.
-const NO_KEY: u64 = 0x100_0000;
+pub const NO_KEY: u64 = 0x100_0000;
 
 // The more urgent of two ranks or ceilings.
 pub fn more_urgent(a: u16, b: u16) -> u16
@@ -35,7 +31,7 @@ pub fn ceiling(set: RankSet) -> u16
 }
 
 // The lower of two keys.
-fn lower(a: u64, b: u64) -> u64
+pub fn lower(a: u64, b: u64) -> u64
     ensures { λ r. ⌜ r ≡ min a b ⌝ }
 {
     if a < b { a } else { b }

@@ -7,11 +7,10 @@ use lib.Dec.{eqb}
 use lib.ListN.{replicate}
 use Rattle.basics.specs.Choice.{if_then_else_, between}
 use Rattle.basics.specs.Arrays.{at, put, mapped}
-use Rattle.ranks.specs.Ranks.{member, with, without, union}
+use Rattle.ranks.specs.Ranks.{limit, member, with, without, union}
 use Rattle.state.specs.declared.State.{State}
--- how many ranks, objects and processors there can be
-use Rattle.ranks.specs.Ranks.{limit}
 
+-- how many objects and processors there can be; the number of ranks is `limit`
 abbrev pub mostObjects : ℕ
 mostObjects = 128
 

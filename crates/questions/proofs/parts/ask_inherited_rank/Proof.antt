@@ -1,6 +1,6 @@
 -- `manager::ask_inherited_rank` meets its contract: refused with its number, or what the rule gives for the state's parts.
 -- Assumes nothing.
-use Rattle.rule.specs.Parts.{inherited-rank-parts}
+use Rattle.inheritance.specs.Parts.{inherited-rank-parts}
 use Rattle.refusals.specs.Accepting.{job-asking}
 use Rattle.refusals.specs.Accepting.{asking}
 use denote.Ref.{now}

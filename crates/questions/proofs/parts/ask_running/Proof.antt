@@ -1,6 +1,6 @@
 -- `manager::ask_running` meets its contract: refused with its number, or what the rule gives for the state's parts.
 -- Assumes nothing.
-use Rattle.rule.specs.Parts.{running-rank-parts}
+use Rattle.inheritance.specs.Parts.{running-rank-parts}
 use Rattle.refusals.specs.Accepting.{processor-asking}
 use denote.Ref.{now}
 use mathlib.Core.Path.{_≡_, sym, ap, _∙_}

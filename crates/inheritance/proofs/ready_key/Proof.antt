@@ -1,8 +1,8 @@
--- `rule::running::ready_key` meets its contract: its two ways are those of the definition.
+-- `inheritance::ready_key` meets its contract: its two ways are those of the definition.
 -- Assumes nothing.
 use borrow.Author.Needs.{needs}
-use Rattle.rule.proofs.running.ready_key.Statement.{statement}
-use Rattle.rule.proofs.running.ready_key.Tie as tie
+use Rattle.inheritance.proofs.ready_key.Statement.{statement}
+use Rattle.inheritance.proofs.ready_key.Tie as tie
 
 inherited-by-requires : tie.Need-inherited-by-requires
 inherited-by-requires c κs = search needs

@@ -3,13 +3,14 @@ ghost use mathlib.Core.Path.{_≡_};
 ghost use Prim.Native.Nat.{_≤_, min};
 ghost use Rattle.ranks.specs.Ranks.{limit};
 ghost use Rattle.state.specs.State.{mostObjects};
-ghost use Rattle.rule.specs.Running as R;
-ghost use Rattle.rule.specs.Inheriting as I;
-ghost use Rattle.rule.specs.Parts as P;
-use crate::NO_KEY;
-use crate::key_holder;
-use crate::lower;
-use crate::named_key;
+ghost use Rattle.inheritance.specs.Running as R;
+ghost use Rattle.inheritance.specs.Inheriting as I;
+ghost use Rattle.rule.specs.Parts.{waitsState};
+ghost use Rattle.inheritance.specs.Parts.{runState};
+use rule::NO_KEY;
+use rule::key_holder;
+use rule::lower;
+use rule::named_key;
 use ranks::RankSet;
 use state::JobProcessors;
 use state::JobRequests;
@@ -29,7 +30,7 @@ fn named_holders<'a>(
     request: &'a JobRequests,
 ) -> JobRanks
     requires { ⌜ (jobs ≤ limit) × (objects ≤ mostObjects) ⌝ }
-    ensures { λ r. ⌜ I.NamedBy r (P.waitsState jobs objects (now («may_read» .entry)) (now («may_write» .entry)) (now (readers .entry)) (now (writers .entry)) (now (request .entry))) ⌝ }
+    ensures { λ r. ⌜ I.NamedBy r (waitsState jobs objects (now («may_read» .entry)) (now («may_write» .entry)) (now (readers .entry)) (now (writers .entry)) (now (request .entry))) ⌝ }
 {
     let mut named: JobRanks = [0; 64];
     let mut rank: u8 = 0;
@@ -90,7 +91,7 @@ pub fn inherited_rank<'a>(
     rank: u8,
 ) -> u8
     requires { ⌜ (jobs ≤ limit) × (objects ≤ mostObjects) × (1 ≤ rank) ⌝ }
-    ensures { λ r. ⌜ r ≡ R.inheritedRank (P.waitsState jobs objects (now («may_read» .entry)) (now («may_write» .entry)) (now (readers .entry)) (now (writers .entry)) (now (request .entry))) rank ⌝ }
+    ensures { λ r. ⌜ r ≡ R.inheritedRank (waitsState jobs objects (now («may_read» .entry)) (now («may_write» .entry)) (now (readers .entry)) (now (writers .entry)) (now (request .entry))) rank ⌝ }
 {
     let named = named_holders(
         jobs,
@@ -161,7 +162,7 @@ pub fn running_rank<'a>(
     processor: u8,
 ) -> u8
     requires { ⌜ (jobs ≤ limit) × (objects ≤ mostObjects) ⌝ }
-    ensures { λ r. ⌜ r ≡ R.runningRank (P.runState jobs objects (now («processor_of» .entry)) active (now («may_read» .entry)) (now («may_write» .entry)) (now (readers .entry)) (now (writers .entry)) (now (request .entry))) processor ⌝ }
+    ensures { λ r. ⌜ r ≡ R.runningRank (runState jobs objects (now («processor_of» .entry)) active (now («may_read» .entry)) (now («may_write» .entry)) (now (readers .entry)) (now (writers .entry)) (now (request .entry))) processor ⌝ }
 {
     let named = named_holders(
         jobs,

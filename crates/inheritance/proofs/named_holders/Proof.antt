@@ -1,4 +1,4 @@
--- `rule::running::named_holders` meets its contract. The loop's invariant: the element of each rank passed is the rank that it names. A turn stores one more, and
+-- `inheritance::named_holders` meets its contract. The loop's invariant: the element of each rank passed is the rank that it names. A turn stores one more, and
 -- the number of ranks left falls.
 -- Assumes nothing.
 use mathlib.Core.Path.{_≡_, sym, ap, _∙_}
@@ -6,14 +6,13 @@ use Prim.Native.Nat.{ℕ, _≤_, _-_, _+_}
 use native.Mathlib.Omega.{arith}
 use lib.ListN.{length}
 use denote.Ref.{now}
-use Rattle.basics.specs.Arrays.{at}
+use Rattle.basics.specs.Arrays.{at, at-next, stored}
 use Rattle.rule.specs.Keys.{keyHolder, lowestKey}
 use Rattle.rule.specs.Granting.{namedKeyOf, namedKey, namedHolder}
 use Rattle.rule.specs.Parts.{waitsState, locksState, named-key-parts}
-use Rattle.rule.proofs.Steps.{at-next, stored}
 use borrow.Author.Needs.{needs}
-use Rattle.rule.proofs.running.named_holders.Statement.{statement}
-use Rattle.rule.proofs.running.named_holders.Tie as tie
+use Rattle.inheritance.proofs.named_holders.Statement.{statement}
+use Rattle.inheritance.proofs.named_holders.Tie as tie
 
 abbrev Inv-loop : tie.InvT-loop
 Inv-loop jobs objects may-read may-write readers writers request named₀ rank₀ named rank =

@@ -1,4 +1,4 @@
--- `rule::running::running_by` meets its contract. The loop's invariant: `lowest` is the lowest key of the ready ranks passed. A turn takes one rank more, and the
+-- `inheritance::running_by` meets its contract. The loop's invariant: `lowest` is the lowest key of the ready ranks passed. A turn takes one rank more, and the
 -- number of ranks left falls.
 -- Assumes nothing.
 use mathlib.Core.Path.{_≡_, refl, sym, ap, ap₂, _∙_}
@@ -6,14 +6,13 @@ use mathlib.Core.Bool.{Bool}
 use Prim.Native.Nat.{ℕ, _≤_, _-_, _+_, _%_, min}
 use native.Mathlib.Omega.{arith}
 use denote.Ref.{now}
-use Rattle.basics.specs.Arrays.{at}
+use Rattle.basics.specs.Arrays.{at, at-next}
 use Rattle.basics.specs.Loops.{least, least-more}
 use Rattle.rule.specs.Keys.{noKey}
-use Rattle.rule.specs.Inheriting.{readyBy, readyKeyBy, runningBy}
-use Rattle.rule.proofs.Steps.{at-next}
+use Rattle.inheritance.specs.Inheriting.{readyBy, readyKeyBy, runningBy}
 use borrow.Author.Needs.{needs}
-use Rattle.rule.proofs.running.running_by.Statement.{statement}
-use Rattle.rule.proofs.running.running_by.Tie as tie
+use Rattle.inheritance.proofs.running_by.Statement.{statement}
+use Rattle.inheritance.proofs.running_by.Tie as tie
 
 abbrev Inv-loop : tie.InvT-loop
 Inv-loop jobs named processor-of active request processor lowest₀ rank₀ lowest rank =

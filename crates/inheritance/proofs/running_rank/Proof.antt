@@ -1,12 +1,13 @@
--- `rule::running::running_rank` meets its contract: by whom each rank names, as `running-by` says.
+-- `inheritance::running_rank` meets its contract: by whom each rank names, as `running-by` says.
 -- Assumes nothing.
 use mathlib.Core.Path.{sym, _∙_}
 use denote.Ref.{now}
-use Rattle.rule.specs.Inheriting.{NamedBy, running-by}
-use Rattle.rule.specs.Parts.{runState, named-holder-parts}
+use Rattle.inheritance.specs.Inheriting.{NamedBy, running-by}
+use Rattle.rule.specs.Parts.{named-holder-parts}
+use Rattle.inheritance.specs.Parts.{runState}
 use borrow.Author.Needs.{needs}
-use Rattle.rule.proofs.running.running_rank.Statement.{statement}
-use Rattle.rule.proofs.running.running_rank.Tie as tie
+use Rattle.inheritance.proofs.running_rank.Statement.{statement}
+use Rattle.inheritance.proofs.running_rank.Tie as tie
 
 named-holders-requires : tie.Need-named-holders-requires
 named-holders-requires c κs = search needs

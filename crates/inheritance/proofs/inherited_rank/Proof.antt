@@ -1,13 +1,13 @@
--- `rule::running::inherited_rank` meets its contract: by whom each rank names, as `inherited-by` says.
+-- `inheritance::inherited_rank` meets its contract: by whom each rank names, as `inherited-by` says.
 -- Assumes nothing.
 use mathlib.Core.Path.{_∙_}
 use denote.Ref.{now}
 use native.Mathlib.Omega.{arith}
-use Rattle.rule.specs.Inheriting.{inherited-by}
+use Rattle.inheritance.specs.Inheriting.{inherited-by}
 use Rattle.rule.specs.Parts.{waitsState}
 use borrow.Author.Needs.{needs}
-use Rattle.rule.proofs.running.inherited_rank.Statement.{statement}
-use Rattle.rule.proofs.running.inherited_rank.Tie as tie
+use Rattle.inheritance.proofs.inherited_rank.Statement.{statement}
+use Rattle.inheritance.proofs.inherited_rank.Tie as tie
 
 named-holders-requires : tie.Need-named-holders-requires
 named-holders-requires c κs = search needs

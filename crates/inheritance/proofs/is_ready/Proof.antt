@@ -1,11 +1,11 @@
--- `rule::running::is_ready` meets its contract: that a request is 0 is that it is not other than 0.
+-- `inheritance::is_ready` meets its contract: that a request is 0 is that it is not other than 0.
 -- Assumes nothing.
 use mathlib.Core.Path.{_≡_, refl, ap, ap₂}
 use mathlib.Core.Bool.{Bool, true, false, not, _&&_}
 use lib.Dec.{eqb}
 use borrow.Author.Needs.{needs}
-use Rattle.rule.proofs.running.is_ready.Statement.{statement}
-use Rattle.rule.proofs.running.is_ready.Tie as tie
+use Rattle.inheritance.proofs.is_ready.Statement.{statement}
+use Rattle.inheritance.proofs.is_ready.Tie as tie
 
 contains-requires : tie.Need-contains-requires
 contains-requires c κs = search needs

@@ -1,8 +1,8 @@
--- `rule::running::heir` meets its contract: its two ways are those of the definition.
+-- `inheritance::heir` meets its contract: its two ways are those of the definition.
 -- Assumes nothing.
 use borrow.Author.Tests.{eq-eqb, ne-eqb}
-use Rattle.rule.proofs.running.heir.Statement.{statement}
-use Rattle.rule.proofs.running.heir.Tie as tie
+use Rattle.inheritance.proofs.heir.Statement.{statement}
+use Rattle.inheritance.proofs.heir.Tie as tie
 
 returns : tie.Need-returns
 returns c = simp (eq-eqb _ _ (c .if1 .taken))

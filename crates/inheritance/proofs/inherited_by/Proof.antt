@@ -1,17 +1,16 @@
--- `rule::running::inherited_by` meets its contract. The loop's invariant: `inherited` is the most urgent of the rank and of those passed that name it. A turn
+-- `inheritance::inherited_by` meets its contract. The loop's invariant: `inherited` is the most urgent of the rank and of those passed that name it. A turn
 -- takes one rank more, and the number of ranks left falls.
 -- Assumes nothing.
 use mathlib.Core.Path.{_≡_, refl, sym, ap, ap₂, _∙_}
 use Prim.Native.Nat.{ℕ, _≤_, _-_, _+_, min}
 use native.Mathlib.Omega.{arith}
 use denote.Ref.{now}
-use Rattle.basics.specs.Arrays.{at}
+use Rattle.basics.specs.Arrays.{at, at-next}
 use Rattle.basics.specs.Loops.{least, least-more}
-use Rattle.rule.specs.Inheriting.{heir, inheritedBy}
-use Rattle.rule.proofs.Steps.{at-next}
+use Rattle.inheritance.specs.Inheriting.{heir, inheritedBy}
 use borrow.Author.Needs.{needs}
-use Rattle.rule.proofs.running.inherited_by.Statement.{statement}
-use Rattle.rule.proofs.running.inherited_by.Tie as tie
+use Rattle.inheritance.proofs.inherited_by.Statement.{statement}
+use Rattle.inheritance.proofs.inherited_by.Tie as tie
 
 abbrev Inv-loop : tie.InvT-loop
 Inv-loop jobs named rank inherited₀ other₀ inherited other =

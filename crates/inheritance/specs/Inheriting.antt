@@ -14,9 +14,9 @@ use Rattle.basics.specs.Loops.{least, least-same}
 use Rattle.ranks.specs.Ranks.{member}
 use Rattle.state.specs.declared.State.{State}
 use Rattle.state.specs.State.{isWaiting}
 use Rattle.rule.specs.Keys.{noKey}
 use Rattle.rule.specs.Granting.{namedKey, namedHolder}
-use Rattle.rule.specs.Running.{inheritedFrom, inheritedRank, isReady, readyKey, runningRank}
+use Rattle.inheritance.specs.Running.{inheritedFrom, inheritedRank, isReady, readyKey, runningRank}
 
 -- each job's element is the rank that it names
 abbrev pub NamedBy : List ℕ → State → Type 0

@@ -1,0 +1,4 @@
+-- Inherited ranks, and the job that a processor runs by them.
+pub mod Running
+pub mod Inheriting
+pub mod Parts
