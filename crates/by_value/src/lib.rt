@@ -2,7 +2,6 @@
 ghost use mathlib.Core.Path.{_≡_};
 ghost use Rattle.table.specs.Reading.{readTable};
 ghost use Rattle.by_value.specs.Mixing.{mixed};
-
 use manager::event;
 use table::read_table;
 use vongselik::pack;

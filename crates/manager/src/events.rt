@@ -1,6 +1,6 @@
 // Events on the parts of a state, in place: one small function for each rule.
 ghost use mathlib.Core.Path.{_≡_};
-ghost use mathlib.Core.List.{List, []};
+ghost use mathlib.Core.List.{List};
 ghost use Prim.Native.Nat.{ℕ, _≤_};
 ghost use Rattle.ranks.specs.Ranks.{with};
 ghost use Rattle.state.specs.State.{stateOf};
@@ -14,9 +14,9 @@ use crate::changes::object_in;
 use crate::changes::release_set;
 use crate::changes::release_sets;
 use crate::changes::store_request;
+use ranks::RankSet;
 use refusals::refusal;
 use refusals::set_of;
-use ranks::RankSet;
 use state::JobProcessors;
 use state::JobRequests;
 use state::ObjectSets;

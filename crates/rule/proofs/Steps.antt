@@ -1,14 +1,10 @@
 -- Where the element of a rank or an object stands, and what an array says with one element more.
 -- Assumes nothing.
-use mathlib.Core.Path.{_≡_, sym, ap, _∙_}
-use mathlib.Core.Logic.{_⊎_, inl, inr}
+use mathlib.Core.Path.{_≡_, _∙_}
 use mathlib.Core.List.{List}
-use Prim.Native.Nat.{ℕ, zero, suc, _+_, _-_, _≤_, _<_}
-use native.Mathlib.Nat.{eq-or-lt-of-le}
-use native.Mathlib.Numerals.{add-one}
+use Prim.Native.Nat.{ℕ, zero, suc, _-_, _≤_}
 use native.Mathlib.Omega.{arith}
-use lib.ListN.{length, getD, set}
-use Rattle.basics.specs.Arrays.{at, at-put-same, at-put-other}
+use lib.ListN.{getD}
 use Rattle.basics.specs.Loops.{least}
 use Rattle.rule.specs.Keys.{noKey, lowestKey}
 use Rattle.rule.specs.ObjectKeys.{objectKeyOf}

@@ -2,7 +2,6 @@
 ghost use mathlib.Core.Path.{_≡_};
 ghost use mathlib.Core.List.{[]};
 ghost use Prim.Native.Nat.{_≤_};
-ghost use lib.Dec.{eqb};
 ghost use Rattle.basics.specs.Choice.{between};
 ghost use Rattle.state.specs.State.{ofMode, stateOf};
 ghost use Rattle.state.specs.WellFormed.{countsWithin, processorsFit, mayAwait, waitsFit};

@@ -2,7 +2,6 @@
 ghost use mathlib.Core.Path.{_≡_};
 ghost use mathlib.Core.Logic.{_⊎_};
 ghost use Prim.Native.Nat.{_≤_};
-ghost use lib.Dec.{eqb};
 ghost use Rattle.basics.specs.Choice.{if_then_else_};
 ghost use Rattle.state.specs.Survey.{objectWrong, surveyTo, surveyOf};
 use crate::ObjectSets;

@@ -2,7 +2,7 @@
 ghost use mathlib.Core.Path.{_≡_};
 ghost use Prim.Native.Nat.{_+_, _*_, _≤_, _<_};
 ghost use lib.ListN.{length};
-ghost use Rattle.table.specs.Bytes.{entryCount, entriesStart, tableLength, entryStart, rankIn};
+ghost use Rattle.table.specs.Bytes.{entryCount, entriesStart, tableLength, entryStart};
 
 // The byte as a number that counts bytes.
 pub fn wide(x: u8) -> usize

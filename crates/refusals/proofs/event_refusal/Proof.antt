@@ -1,4 +1,4 @@
--- `manager::event_refusal` meets its contract: 9, 10 and 11 leave at once; behind them the rank and the object are in range,
+-- `refusals::event_refusal` meets its contract: 9, 10 and 11 leave at once; behind them the rank and the object are in range,
 -- and the rest is that of its calls.
 -- Assumes nothing.
 use Rattle.state.specs.State.{read, write, declared, holders, isActive, isWaiting}

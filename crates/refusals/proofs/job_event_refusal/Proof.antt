@@ -1,4 +1,4 @@
--- `manager::job_event_refusal` meets its contract, by those of its calls.
+-- `refusals::job_event_refusal` meets its contract, by those of its calls.
 -- Assumes nothing.
 use borrow.Author.Needs.{needs}
 use Rattle.refusals.proofs.job_event_refusal.Statement.{statement}

@@ -1,4 +1,4 @@
--- `manager::job_refusal` meets its contract: each test leaves with its number, in the paper's order.
+-- `refusals::job_refusal` meets its contract: each test leaves with its number, in the paper's order.
 -- Assumes nothing.
 use mathlib.Core.Path.{_≡_, sym, _∙_}
 use mathlib.Core.Bool.{true}

@@ -1,4 +1,4 @@
--- `manager::lock_refusal` meets its contract, by those of its calls.
+-- `refusals::lock_refusal` meets its contract, by those of its calls.
 -- Assumes nothing.
 use borrow.Author.Needs.{needs}
 use Rattle.refusals.proofs.lock_refusal.Statement.{statement}

@@ -1,4 +1,4 @@
--- `manager::object_allowed` meets its contract: the test is that of the definition.
+-- `refusals::object_allowed` meets its contract: the test is that of the definition.
 -- Assumes nothing.
 use mathlib.Core.Path.{sym, ap, _∙_}
 use mathlib.Core.Bool.{Bool}

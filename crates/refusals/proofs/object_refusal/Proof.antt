@@ -1,4 +1,4 @@
--- `manager::object_refusal` meets its contract, by those of its calls.
+-- `refusals::object_refusal` meets its contract, by those of its calls.
 -- Assumes nothing.
 use borrow.Author.Needs.{needs}
 use Rattle.refusals.proofs.object_refusal.Statement.{statement}

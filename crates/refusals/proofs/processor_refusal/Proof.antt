@@ -1,4 +1,4 @@
--- `manager::processor_refusal` meets its contract, by those of its calls.
+-- `refusals::processor_refusal` meets its contract, by those of its calls.
 -- Assumes nothing.
 use borrow.Author.Needs.{needs}
 use Rattle.refusals.proofs.processor_refusal.Statement.{statement}

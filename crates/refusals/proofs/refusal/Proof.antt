@@ -1,4 +1,4 @@
--- `manager::refusal` meets its contract: 8 leaves at once; behind it the counts are within their limits.
+-- `refusals::refusal` meets its contract: 8 leaves at once; behind it the counts are within their limits.
 -- Assumes nothing.
 use denote.Ref.{now}
 use mathlib.Core.Path.{_≡_, sym, _∙_}

@@ -1,4 +1,4 @@
--- `manager::set_of` meets its contract: an object's set stands at its index.
+-- `refusals::set_of` meets its contract: an object's set stands at its index.
 -- Assumes nothing.
 use mathlib.Core.Path.{ap}
 use Prim.Native.Nat.{ℕ}

@@ -1,4 +1,4 @@
--- `manager::ask_ceilings` meets its contract: refused with its number, or what the rule gives for the state's parts.
+-- `questions::parts::ask_ceilings` meets its contract: refused with its number, or what the rule gives for the state's parts.
 -- Assumes nothing.
 use mathlib.Core.Path.{ap₂}
 use Rattle.ranks.specs.Ranks.{union}

@@ -1,4 +1,4 @@
--- `manager::ask_inherited_rank` meets its contract: refused with its number, or what the rule gives for the state's parts.
+-- `questions::parts::ask_inherited_rank` meets its contract: refused with its number, or what the rule gives for the state's parts.
 -- Assumes nothing.
 use Rattle.inheritance.specs.Parts.{inherited-rank-parts}
 use Rattle.refusals.specs.Accepting.{job-asking}

@@ -1,4 +1,4 @@
--- `manager::ask_named_lock` meets its contract: refused with its number, or what the rule gives for the state's parts.
+-- `questions::parts::ask_named_lock` meets its contract: refused with its number, or what the rule gives for the state's parts.
 -- Assumes nothing.
 use native.Mathlib.Omega.{arith}
 use Prim.Native.Nat.{ℕ, _≤_}

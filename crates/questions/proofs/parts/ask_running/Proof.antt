@@ -1,4 +1,4 @@
--- `manager::ask_running` meets its contract: refused with its number, or what the rule gives for the state's parts.
+-- `questions::parts::ask_running` meets its contract: refused with its number, or what the rule gives for the state's parts.
 -- Assumes nothing.
 use Rattle.inheritance.specs.Parts.{running-rank-parts}
 use Rattle.refusals.specs.Accepting.{processor-asking}
