@@ -66,21 +66,21 @@ fn write_line(line: &[u8], n: usize) -> bool
 // Writes the record's first line; answers whether that went well.
 fn write_header(jobs: u8, processors: u8, objects: u8) -> bool {
     let mut line = [0; 64];
-    let n = record::header_line(&mut line, jobs, processors, objects);
+    let n = lines::header_line(&mut line, jobs, processors, objects);
     write_line(&line, n)
 }
 
 // Writes the last line, behind so many events.
 fn write_end(events: u64) {
     let mut line = [0; 64];
-    let n = record::end_line(&mut line, events);
+    let n = lines::end_line(&mut line, events);
     write_line(&line, n);
 }
 
 // Writes the last line where bytes are left over.
 fn write_short() {
     let mut line = [0; 64];
-    let n = record::short_line(&mut line);
+    let n = lines::short_line(&mut line);
     write_line(&line, n);
 }
 
@@ -96,7 +96,7 @@ fn write_last(events: u64, left: usize) {
 // Writes the line of a refused table.
 fn write_refused(number: u8) {
     let mut line = [0; 64];
-    let n = record::refused_line(&mut line, number);
+    let n = lines::refused_line(&mut line, number);
     write_line(&line, n);
 }
 

@@ -8,8 +8,8 @@ use lib.Bits.{bitXor}
 use lib.ListN.{length, drop, getD}
 use Rattle.basics.specs.Threes.{drop-three}
 use Rattle.state.specs.declared.State.{State}
-use Rattle.manager.specs.declared.Outcome.{Outcome}
-use Rattle.manager.specs.Events.{step}
+use Rattle.events.specs.declared.Outcome.{Outcome}
+use Rattle.manager.specs.Step.{step}
 use Rattle.vongselik.specs.Packing.{packed}
 
 -- the exclusive or of a number and the packed answers to the events in some bytes, from a state

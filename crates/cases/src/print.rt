@@ -1,5 +1,5 @@
 // Words, numbers, sets and answers on standard output.
-use manager::Answer;
+use events::Answer;
 use questions::CeilingsAnswer;
 use questions::NamedAnswer;
 use questions::RankAnswer;

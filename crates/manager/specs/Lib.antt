@@ -1,3 +1,2 @@
--- The lock manager: the rules of the six kinds of event.
-pub mod Answers
-pub mod Events
+-- The lock manager: what an event does.
+pub mod Step

@@ -1,25 +1,71 @@
-// The lock manager: what an event does to a state.
+// The lock manager: an event on a state, by value and in place.
 ghost use mathlib.Core.Path.{_≡_};
-ghost use Rattle.manager.specs.Events.{step};
-
-mod changes;
-mod events;
-
-pub use events::act;
+ghost use Rattle.state.specs.State.{stateOf};
+ghost use Rattle.events.specs.Events.{outcome};
+ghost use Rattle.manager.specs.Step.{step};
+use events::Answer;
+use events::Outcome;
+use events::perform;
+use ranks::RankSet;
+use refusals::refusal;
+use state::JobProcessors;
+use state::JobRequests;
+use state::ObjectSets;
 use state::State;
 
-// An event's answer: granted; waits for the lock of a holder on an object, with the reason; done, with the woken rank or 0; refused, with its number.
-pub enum Answer {
-    Granted,
-    Waits { holder: u8, object: u8, reason: u8 },
-    Done(u8),
-    Refused(u8),
-}
-
-// An event's answer and the next state.
-pub struct Outcome {
-    pub answer: Answer,
-    pub state: State,
+// An event: the refusal's number and nothing changed, or what its kind's rule does.
+pub fn act<'a>(
+    processors: u8,
+    jobs: u8,
+    objects: u8,
+    processor_of: &'a JobProcessors,
+    may_read: &'a ObjectSets,
+    may_write: &'a ObjectSets,
+    active: &mut RankSet,
+    unlocked: &mut RankSet,
+    readers: &mut ObjectSets,
+    writers: &mut ObjectSets,
+    request: &mut JobRequests,
+    kind: u8,
+    rank: u8,
+    object: u8,
+) -> Answer
+    ensures { λ r. ⌜ outcome r (stateOf processors jobs objects (now («processor_of» .entry)) (now («may_read» .entry)) (now («may_write» .entry)) (now (active .exit)) (now (unlocked .exit)) (now (readers .exit)) (now (writers .exit)) (now (request .exit)))
+        ≡ step (stateOf processors jobs objects (now («processor_of» .entry)) (now («may_read» .entry)) (now («may_write» .entry)) (now (active .entry)) (now (unlocked .entry)) (now (readers .entry)) (now (writers .entry)) (now (request .entry))) kind rank object ⌝ }
+{
+    let number = refusal(
+        processors,
+        jobs,
+        objects,
+        processor_of,
+        may_read,
+        may_write,
+        *active,
+        *unlocked,
+        readers,
+        writers,
+        request,
+        kind,
+        rank,
+        object,
+    );
+    if number != 0 {
+        return Answer::Refused(number);
+    }
+    perform(
+        jobs,
+        objects,
+        may_read,
+        may_write,
+        active,
+        unlocked,
+        readers,
+        writers,
+        request,
+        kind,
+        rank,
+        object,
+    )
 }
 
 // An event: its answer and the next state; a refusal returns the state handed in. The parts that an event may change are copied, and `act` runs on the copies.

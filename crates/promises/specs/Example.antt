@@ -11,7 +11,7 @@ use Rattle.state.specs.declared.State.{State}
 use Rattle.state.specs.State.{activate, await, grant, release, endRun}
 use Rattle.state.specs.WellFormed.{processorsFit, declarationsFit, aboveIdle, locksFit, oneLockEach}
 use Rattle.state.specs.WellFormed.{writersAlone, waitsFit, marksFit, wellFormed}
-use Rattle.table.specs.Refusals.{headerRefusal, lengthRefusal, processorRefusal, entryRefusal, entriesRefusal, tableRefusal}
+use Rattle.table_bytes.specs.Refusals.{headerRefusal, lengthRefusal, processorRefusal, entryRefusal, entriesRefusal, tableRefusal}
 use Rattle.table.specs.Example.{example}
 use Rattle.table.specs.Reading.{processorsOf, withRight, declaredIn, tableState, readTable}
 use Rattle.rule.specs.Weights.{weight}
@@ -21,10 +21,11 @@ use Rattle.inheritance.specs.Running as R
 use Rattle.inheritance.specs.Running.{runningRank}
 use Rattle.questions.specs.declared.RankAnswer.{RankAnswer}
 use Rattle.questions.specs.declared.RankAnswer.the-variants.{Rank}
-use Rattle.manager.specs.Answers.{Paper, paper}
+use Rattle.events.specs.Answers.{Paper, paper}
 use Rattle.refusals.specs.Refusals as E
 use Rattle.refusals.specs.Refusals.{eventRefusal, refusal, jobRefusal}
-use Rattle.manager.specs.Events.{requestMeeting, woken, wake, accepted, step}
+use Rattle.events.specs.Events.{requestMeeting, woken, wake, accepted}
+use Rattle.manager.specs.Step.{step}
 use Rattle.questions.specs.Questions.{inheritedRank, running}
 
 -- ---- the four answers, by their number and values

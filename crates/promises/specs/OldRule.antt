@@ -23,9 +23,10 @@ use Rattle.rule.specs.KeyLaws.{OthersLock, KeyOfOther, key-below, key-top, key-
 use Rattle.rule.specs.Granting.{passes, oldPasses, namedKey}
 use Rattle.inheritance.specs.Running as R
 use Rattle.inheritance.specs.Running.{inheritedFrom, isReady, readyKey, runningRank}
-use Rattle.manager.specs.Answers.{paper}
+use Rattle.events.specs.Answers.{paper}
 use Rattle.refusals.specs.Refusals.{isRequest, modeOf, refusal, processorRefusal}
-use Rattle.manager.specs.Events.{requestMeeting, request, accepted, step}
+use Rattle.events.specs.Events.{requestMeeting, request, accepted}
+use Rattle.manager.specs.Step.{step}
 use Rattle.questions.specs.Answers.{rankReply, value}
 use Rattle.questions.specs.Questions.{running}
 use Rattle.theory.specs.Keeps.{TopHolder, named-top, top-not-waiting}

@@ -14,7 +14,7 @@ use Rattle.state.specs.WellFormedFacts.{facts, facts-well-formed}
 use Rattle.table.specs.Reading.{readTable}
 use Rattle.table.specs.Fresh.{Fresh, read-fresh}
 use Rattle.rule.specs.Granting.{passes, wakeable}
-use Rattle.manager.specs.Answers.{paper}
+use Rattle.events.specs.Answers.{paper}
 use Rattle.refusals.specs.Refusals.{isRequest, modeOf}
 use Rattle.questions.specs.Answers.{rankReply, value}
 use Rattle.questions.specs.Questions.{running}

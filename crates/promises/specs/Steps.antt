@@ -20,11 +20,12 @@ use Rattle.state.specs.Changes.{release-others, release-none, release-same}
 use Rattle.state.specs.Keeping.{activate-keeps, await-keeps, release-keeps, end-keeps, grant-keeps}
 use Rattle.rule.specs.Keys.{keyHolder, keyObject, lowestKey}
 use Rattle.rule.specs.Granting.{passes, reason, wakeable}
-use Rattle.manager.specs.declared.Outcome.{Outcome}
-use Rattle.manager.specs.declared.Answer.the-variants.{Granted, Waits, Refused}
-use Rattle.manager.specs.Answers.{paper}
+use Rattle.events.specs.declared.Outcome.{Outcome}
+use Rattle.events.specs.declared.Answer.the-variants.{Granted, Waits, Refused}
+use Rattle.events.specs.Answers.{paper}
 use Rattle.refusals.specs.Refusals.{modeOf, refusal}
-use Rattle.manager.specs.Events.{outcome, requestMeeting, request, woken, wake, finish, accepted, step}
+use Rattle.events.specs.Events.{outcome, requestMeeting, request, woken, wake, finish, accepted}
+use Rattle.manager.specs.Step.{step}
 use Rattle.theory.specs.Words.{Label}
 use Rattle.theory.specs.Machine.{MayRequest, Step}
 use Rattle.theory.specs.Build.{labelled, refused-step, start-step, grant-step, wait-step, unlock-step, end-step}

@@ -10,10 +10,10 @@ use Rattle.ranks.specs.Ranks.{limit}
 use Rattle.state.specs.State.{read, write, mostObjects, zeros}
 use Rattle.state.specs.Facts.{Sized}
 use Rattle.table.specs.declared.TableRead.{TableRead}
-use Rattle.table.specs.Bytes.{jobsIn, entryCount}
-use Rattle.table.specs.Refusals.{tableRefusal}
+use Rattle.table_bytes.specs.Bytes.{jobsIn, entryCount}
+use Rattle.table_bytes.specs.Refusals.{tableRefusal}
 use Rattle.table.specs.Reading.{processorsOf, tableState, readTable}
-use Rattle.table.specs.Accepted.{Accepted, accepted}
+use Rattle.table_bytes.specs.Accepted.{Accepted, accepted}
 use Rattle.table.specs.Declarations.{declared-fits}
 use Rattle.table.specs.Fresh.{read-refusal, read-accepted}
 

@@ -10,10 +10,11 @@ use Rattle.state.specs.declared.State.{State}
 use Rattle.state.specs.Facts.{Sized}
 use Rattle.table.specs.Fresh.{Fresh}
 use Rattle.rule.specs.Keys.{oldLowestKey}
-use Rattle.manager.specs.declared.Outcome.{Outcome}
-use Rattle.manager.specs.Answers.{Paper, paper}
+use Rattle.events.specs.declared.Outcome.{Outcome}
+use Rattle.events.specs.Answers.{Paper, paper}
 use Rattle.refusals.specs.Refusals.{isRequest, modeOf}
-use Rattle.manager.specs.Events.{requestMeeting, step}
+use Rattle.events.specs.Events.{requestMeeting}
+use Rattle.manager.specs.Step.{step}
 use Rattle.questions.specs.Answers.{namedReply, value}
 use Rattle.questions.specs.Questions.{namedLock}
 use Rattle.theory.specs.Words.{Label}

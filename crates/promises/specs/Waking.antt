@@ -18,7 +18,7 @@ use Rattle.state.specs.Changes.{grant-request, grant-same}
 use Rattle.state.specs.Keeping.{grant-keeps}
 use Rattle.rule.specs.Granting.{passes, wakes, wakeable}
 use Rattle.rule.specs.WakeLaws.{FoundAt, Found, wakeable-found, wakes-is}
-use Rattle.manager.specs.Events.{woken}
+use Rattle.events.specs.Events.{woken}
 use Rattle.theory.specs.Machine.{Passes, Blocked}
 use Rattle.theory.specs.Build.{Woke}
 use Rattle.promises.specs.Weights.{lockWeight, passes-all, fails-blocked, blocked-fails}

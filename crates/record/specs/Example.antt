@@ -10,15 +10,16 @@ use Rattle.ranks.specs.Ranks.{member, with, without, first}
 use Rattle.state.specs.State.{activate, await, grant, release, endRun}
 use Rattle.state.specs.WellFormed.{processorsFit, declarationsFit, aboveIdle, locksFit, oneLockEach}
 use Rattle.state.specs.WellFormed.{writersAlone, waitsFit, marksFit, wellFormed}
-use Rattle.table.specs.Refusals.{headerRefusal, lengthRefusal, processorRefusal, entryRefusal, entriesRefusal, tableRefusal}
+use Rattle.table_bytes.specs.Refusals.{headerRefusal, lengthRefusal, processorRefusal, entryRefusal, entriesRefusal, tableRefusal}
 use Rattle.table.specs.Example.{example}
 use Rattle.table.specs.Reading.{processorsOf, withRight, declaredIn, tableState, readTable}
 use Rattle.rule.specs.Weights.{weight}
 use Rattle.rule.specs.Keys.{othersKey, objectKey, lowestKeyBy}
 use Rattle.rule.specs.Granting.{namedKey, reason, wakeable}
 use Rattle.refusals.specs.Refusals.{eventRefusal, refusal}
-use Rattle.manager.specs.Events.{requestMeeting, woken, wake, accepted, step}
-use Rattle.record.specs.Lines.{decimalWithin, decimal, headerLine, eventLine, endLine, shortLine, refusedLine}
+use Rattle.events.specs.Events.{requestMeeting, woken, wake, accepted}
+use Rattle.manager.specs.Step.{step}
+use Rattle.lines.specs.Lines.{decimalWithin, decimal, headerLine, eventLine, endLine, shortLine, refusedLine}
 use Rattle.record.specs.Record.{eventLines, recordOf}
 
 -- the twelve events, three bytes each

@@ -1,6 +1,4 @@
--- The bench record: its lines, the record of an input, and the example of 01.
-pub mod Lines
-pub mod LineLaws
+-- The bench record of an input, and the example of 01.
 pub mod Record
 pub mod RecordLaws
 pub mod Example

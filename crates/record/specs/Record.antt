@@ -8,8 +8,8 @@ use Rattle.basics.specs.Choice.{if_then_else_}
 use Rattle.state.specs.declared.State.{State}
 use Rattle.table.specs.declared.TableRead.{TableRead}
 use Rattle.table.specs.Reading.{readTable}
-use Rattle.manager.specs.Events.{step}
-use Rattle.record.specs.Lines.{headerLine, eventLine, endLine, shortLine, refusedLine}
+use Rattle.manager.specs.Step.{step}
+use Rattle.lines.specs.Lines.{headerLine, eventLine, endLine, shortLine, refusedLine}
 
 -- the lines of the events in some bytes, from a state in which so many events came before; "An event is three bytes: kind, rank, object"
 unfoldable pub eventLines : State → ℕ → List ℕ → List ℕ

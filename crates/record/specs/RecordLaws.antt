@@ -8,13 +8,13 @@ use native.Mathlib.Omega.{arith}
 use lib.ListN.{length}
 use Rattle.state.specs.declared.State.{State}
 use Rattle.table.specs.declared.TableRead.{TableRead}
-use Rattle.table.specs.Bytes.{tableLength}
-use Rattle.table.specs.Refusals.{tableRefusal}
+use Rattle.table_bytes.specs.Bytes.{tableLength}
+use Rattle.table_bytes.specs.Refusals.{tableRefusal}
 use Rattle.table.specs.Reading.{readTable}
-use Rattle.table.specs.Accepted.{accepted}
+use Rattle.table_bytes.specs.Accepted.{accepted}
 use Rattle.table.specs.Fresh.{read-refusal, read-accepted}
-use Rattle.manager.specs.Events.{step}
-use Rattle.record.specs.Lines.{eventLine}
+use Rattle.manager.specs.Step.{step}
+use Rattle.lines.specs.Lines.{eventLine}
 use Rattle.record.specs.Record.{eventLines, stateAfter}
 
 -- ---- an event, and what it leaves

@@ -1,58 +1,112 @@
-// The lines of the bench record, laid one at a time at the front of a lent buffer. Each function answers its line's length.
-ghost use Rattle.record.specs.Lines.{headerLine, eventLine, endLine, shortLine, refusedLine, LineLaid};
+// Events taken from bytes and answered one after the other, their lines laid one behind the other.
+ghost use mathlib.Core.Path.{_≡_};
+ghost use Prim.Native.Nat.{_+_, _*_, _^_, _≤_, _<_};
+ghost use lib.ListN.{length};
+ghost use Rattle.state.specs.State.{stateOf};
+ghost use Rattle.manager.specs.Step.{step};
+ghost use Rattle.lines.specs.Lines.{eventLine};
+ghost use Rattle.lines.specs.LineLaws.{Laid};
+ghost use Rattle.record.specs.Record.{eventLines, stateAfter};
+use lines::lay_event;
+use ranks::RankSet;
+use state::JobProcessors;
+use state::JobRequests;
+use state::ObjectSets;
 
-mod lay;
-mod run;
-
-use lay::lay_end;
-use lay::lay_event;
-use lay::lay_header;
-use lay::lay_refused;
-use lay::lay_short;
-use manager::Answer;
-pub use run::lay_events;
-
-// Room for any line: the longest has 45 bytes.
-pub type LineBuffer = [u8; 64];
-
-// Line 1 of a record: mark, version, jobs, processors, objects.
-pub fn header_line(buf: &mut LineBuffer, jobs: u8, processors: u8, objects: u8) -> usize
-    ensures { λ r. ⌜ LineLaid (headerLine jobs processors objects) (now (buf .entry)) (now (buf .exit)) r ⌝ }
-{
-    lay_header(buf, jobs, processors, objects)
-}
-
-// The line of the event with this number, which got this answer.
-pub fn event_line(
-    buf: &mut LineBuffer,
+// An event on the parts of a state, in place, and its line laid at the index; answers the index behind it.
+fn lay_answered<'a>(
+    processors: u8,
+    jobs: u8,
+    objects: u8,
+    processor_of: &'a JobProcessors,
+    may_read: &'a ObjectSets,
+    may_write: &'a ObjectSets,
+    active: &mut RankSet,
+    unlocked: &mut RankSet,
+    readers: &mut ObjectSets,
+    writers: &mut ObjectSets,
+    request: &mut JobRequests,
+    buf: &mut [u8],
+    at: usize,
     number: u64,
     kind: u8,
     rank: u8,
     object: u8,
-    answer: Answer,
 ) -> usize
-    ensures { λ r. ⌜ LineLaid (eventLine number kind rank object answer) (now (buf .entry)) (now (buf .exit)) r ⌝ }
+    requires { ⌜ at + 45 ≤ length (now buf) ⌝ }
+    ensures { λ r. ⌜ (stateOf processors jobs objects (now («processor_of» .entry)) (now («may_read» .entry)) (now («may_write» .entry)) (now (active .exit)) (now (unlocked .exit)) (now (readers .exit)) (now (writers .exit)) (now (request .exit))
+        ≡ step (stateOf processors jobs objects (now («processor_of» .entry)) (now («may_read» .entry)) (now («may_write» .entry)) (now (active .entry)) (now (unlocked .entry)) (now (readers .entry)) (now (writers .entry)) (now (request .entry))) kind rank object .state)
+        × Laid (now (buf .entry)) (now (buf .exit)) at r 45 (eventLine number kind rank object
+        (step (stateOf processors jobs objects (now («processor_of» .entry)) (now («may_read» .entry)) (now («may_write» .entry)) (now (active .entry)) (now (unlocked .entry)) (now (readers .entry)) (now (writers .entry)) (now (request .entry))) kind rank object .answer)) ⌝ }
 {
-    lay_event(buf, 0, number, kind, rank, object, answer)
+    let answer = manager::act(
+        processors,
+        jobs,
+        objects,
+        processor_of,
+        may_read,
+        may_write,
+        active,
+        unlocked,
+        readers,
+        writers,
+        request,
+        kind,
+        rank,
+        object,
+    );
+    lay_event(buf, at, number, kind, rank, object, answer)
 }
 
-// The last line: the event count.
-pub fn end_line(buf: &mut LineBuffer, events: u64) -> usize
-    ensures { λ r. ⌜ LineLaid (endLine events) (now (buf .entry)) (now (buf .exit)) r ⌝ }
+// The events in the bytes, with so many before them, on the parts of a state, in place; one or two bytes left over are not looked at.
+// Their lines are laid at the front of the buffer; answers the lines' length.
+pub fn lay_events<'a>(
+    processors: u8,
+    jobs: u8,
+    objects: u8,
+    processor_of: &'a JobProcessors,
+    may_read: &'a ObjectSets,
+    may_write: &'a ObjectSets,
+    active: &mut RankSet,
+    unlocked: &mut RankSet,
+    readers: &mut ObjectSets,
+    writers: &mut ObjectSets,
+    request: &mut JobRequests,
+    buf: &mut [u8],
+    events: u64,
+    bytes: &[u8],
+) -> usize
+    requires { ⌜ (15 * length (now bytes) ≤ length (now buf)) × (events + length (now bytes) < 2 ^ 64) ⌝ }
+    ensures { λ r. ⌜ (stateOf processors jobs objects (now («processor_of» .entry)) (now («may_read» .entry)) (now («may_write» .entry)) (now (active .exit)) (now (unlocked .exit)) (now (readers .exit)) (now (writers .exit)) (now (request .exit))
+        ≡ stateAfter (stateOf processors jobs objects (now («processor_of» .entry)) (now («may_read» .entry)) (now («may_write» .entry)) (now (active .entry)) (now (unlocked .entry)) (now (readers .entry)) (now (writers .entry)) (now (request .entry))) (now (bytes .entry)))
+        × Laid (now (buf .entry)) (now (buf .exit)) 0 r (15 * length (now (bytes .entry)))
+        (eventLines (stateOf processors jobs objects (now («processor_of» .entry)) (now («may_read» .entry)) (now («may_write» .entry)) (now (active .entry)) (now (unlocked .entry)) (now (readers .entry)) (now (writers .entry)) (now (request .entry))) events (now (bytes .entry))) ⌝ }
 {
-    lay_end(buf, events)
-}
-
-// The last line where one or two bytes are left over.
-pub fn short_line(buf: &mut LineBuffer) -> usize
-    ensures { λ r. ⌜ LineLaid shortLine (now (buf .entry)) (now (buf .exit)) r ⌝ }
-{
-    lay_short(buf)
-}
-
-// The only line where the table is refused.
-pub fn refused_line(buf: &mut LineBuffer, number: u8) -> usize
-    ensures { λ r. ⌜ LineLaid (refusedLine number) (now (buf .entry)) (now (buf .exit)) r ⌝ }
-{
-    lay_refused(buf, number)
+    let mut at = 0;
+    let mut end = 0;
+    let mut number = events;
+    while bytes.len() - at >= 3 {
+        number += 1;
+        end = lay_answered(
+            processors,
+            jobs,
+            objects,
+            processor_of,
+            may_read,
+            may_write,
+            active,
+            unlocked,
+            readers,
+            writers,
+            request,
+            buf,
+            end,
+            number,
+            bytes[at],
+            bytes[at + 1],
+            bytes[at + 2],
+        );
+        at += 3;
+    }
+    end
 }

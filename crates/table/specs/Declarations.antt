@@ -15,9 +15,9 @@ use Rattle.basics.specs.Arrays.{at, put, at-put-same, at-put-other, length-put,
 use Rattle.ranks.specs.Ranks.{limit, with}
 use Rattle.ranks.specs.RankLaws.{with-lt}
 use Rattle.state.specs.State.{mostObjects, zeros}
-use Rattle.table.specs.Bytes.{jobsIn, objectsIn, processorIn, entryCount, rankIn, objectIn, modeIn}
+use Rattle.table_bytes.specs.Bytes.{jobsIn, objectsIn, processorIn, entryCount, rankIn, objectIn, modeIn}
 use Rattle.table.specs.Reading.{processorsOf, givesRight, withRight, declaredIn}
-use Rattle.table.specs.Accepted.{Accepted, EntryFits}
+use Rattle.table_bytes.specs.Accepted.{Accepted, EntryFits}
 
 -- sets by object in a table of so many jobs and objects
 pub record SetsFit (jobs objects : ℕ) (sets : List ℕ) : Type 0 where

@@ -6,7 +6,7 @@ use mathlib.Core.List.{List, [], _∷_, _++_}
 use lib.ListN.{take}
 use Rattle.basics.specs.Loops.{firstNonzero, joined}
 use Rattle.ranks.specs.Ranks.{with}
-use Rattle.table.specs.Refusals.{headerRefusal, lengthRefusal, processorRefusal, entryRefusal, entriesRefusal, tableRefusal}
+use Rattle.table_bytes.specs.Refusals.{headerRefusal, lengthRefusal, processorRefusal, entryRefusal, entriesRefusal, tableRefusal}
 use Rattle.table.specs.Reading.{withRight, declaredIn, tableState, readTable}
 use Rattle.table.specs.JobEntries.{entriesOf, jobEntriesRefusal, jobEntries}
 

@@ -21,10 +21,10 @@ use Rattle.state.specs.State.{read, write, mostObjects, mostProcessors, zeroSta
 use Rattle.state.specs.WellFormed.{countsFit, processorFits, processorsFit, declarationFits, declarationsFit, declaredOfJobs, aboveIdle}
 use Rattle.state.specs.WellFormed.{heldByActive, heldByRight, locksFit, lockedOnce, oneLockEach, writtenAlone, writersAlone, waitFits, waitsFit, marksFit, wellFormed}
 use Rattle.table.specs.declared.TableRead.{TableRead}
-use Rattle.table.specs.Bytes.{processorsIn, jobsIn, objectsIn, entryCount, tableLength}
-use Rattle.table.specs.Refusals.{tableRefusal}
+use Rattle.table_bytes.specs.Bytes.{processorsIn, jobsIn, objectsIn, entryCount, tableLength}
+use Rattle.table_bytes.specs.Refusals.{tableRefusal}
 use Rattle.table.specs.Reading.{declaredIn, tableState, refusedRead, readTable}
-use Rattle.table.specs.Accepted.{Accepted, accepted}
+use Rattle.table_bytes.specs.Accepted.{Accepted, accepted}
 use Rattle.table.specs.Declarations.{SetsFit, declared-fits, processor-read}
 
 -- a well-formed state with every job idle, so not active, without a mark of unlocking and waiting for nothing, and every object unlocked

@@ -7,8 +7,8 @@ use lib.ListN.{take, drop}
 use lib.Dec.{eqb}
 use Rattle.basics.specs.Choice.{if_then_else_, _if_else_, _orElse_, between}
 use Rattle.basics.specs.Loops.{joined}
-use Rattle.table.specs.Bytes.{jobsIn, rankIn, entryStart, entryCount}
-use Rattle.table.specs.Refusals.{tableRefusal}
+use Rattle.table_bytes.specs.Bytes.{jobsIn, rankIn, entryStart, entryCount}
+use Rattle.table_bytes.specs.Refusals.{tableRefusal}
 
 -- the three bytes of entry i, counted from 1, if it is the rank's
 abbrev pub entryOf : List ℕ → ℕ → ℕ → List ℕ

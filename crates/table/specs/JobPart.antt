@@ -14,10 +14,10 @@ use lib.ListN.{take, drop}
 use lib.Seq.{take-add, drop-drop}
 use Rattle.basics.specs.Choice.{_if_else_, between, between-true, if-zero, or-else-zero}
 use Rattle.basics.specs.Loops.{joined}
-use Rattle.table.specs.Bytes.{jobsIn, rankIn, entryCount, entryStart}
-use Rattle.table.specs.Refusals.{tableRefusal}
+use Rattle.table_bytes.specs.Bytes.{jobsIn, rankIn, entryCount, entryStart}
+use Rattle.table_bytes.specs.Refusals.{tableRefusal}
 use Rattle.table.specs.JobEntries.{entryOf, entriesOf, jobEntriesRefusal}
-use Rattle.table.specs.Accepted.{Accepted}
+use Rattle.table_bytes.specs.Accepted.{Accepted}
 
 -- r is the first entry from `start` on of the rank or a greater one, counted from 0; the entry count if there is none
 pub record FirstFrom (b : List ℕ) (rank start r : ℕ) : Type 0 where

@@ -11,8 +11,8 @@ use Rattle.ranks.specs.Ranks.{limit, with}
 use Rattle.state.specs.declared.State.{State}
 use Rattle.state.specs.State.{read, write, mostObjects, zeros, freshState, zeroState}
 use Rattle.table.specs.declared.TableRead.{TableRead}
-use Rattle.table.specs.Bytes.{processorsIn, jobsIn, objectsIn, entryCount, tableLength, rankIn, objectIn, modeIn}
-use Rattle.table.specs.Refusals.{tableRefusal}
+use Rattle.table_bytes.specs.Bytes.{processorsIn, jobsIn, objectsIn, entryCount, tableLength, rankIn, objectIn, modeIn}
+use Rattle.table_bytes.specs.Refusals.{tableRefusal}
 
 -- the processor of each rank, 0 above the job count
 unfoldable pub processorsOf : List ℕ → List ℕ

@@ -2,14 +2,14 @@
 ghost use mathlib.Core.Path.{_≡_};
 ghost use Prim.Native.Nat.{_≤_, _<_};
 ghost use lib.ListN.{length};
-ghost use Rattle.table.specs.Bytes.{entryCount, entryStart, rankIn};
-ghost use Rattle.table.specs.Refusals.{tableRefusal};
+ghost use Rattle.table_bytes.specs.Bytes.{entryCount, entryStart, rankIn};
+ghost use Rattle.table_bytes.specs.Refusals.{tableRefusal};
 ghost use Rattle.table.specs.JobEntries.{jobEntriesRefusal, jobEntries};
 ghost use Rattle.table.specs.JobPart.{FirstFrom};
-use crate::bytes::entry_count;
-use crate::bytes::entry_start;
-use crate::refusals::table_refusal;
 use state::within;
+use table_bytes::entry_count;
+use table_bytes::entry_start;
+use table_bytes::table_refusal;
 
 // The refusal of the table bytes, then 10 if they have no such rank; 0 otherwise.
 fn job_entries_refusal(bytes: &[u8], rank: u8) -> u8

@@ -1,22 +1,19 @@
 // Table bytes read: the fresh state that they declare, and one job's entries.
 ghost use mathlib.Core.Path.{_≡_};
 ghost use Rattle.state.specs.State.{freshState, zeroState};
-ghost use Rattle.table.specs.Refusals.{tableRefusal};
+ghost use Rattle.table_bytes.specs.Refusals.{tableRefusal};
 ghost use Rattle.table.specs.Reading.{tableState, readTable};
 
-mod bytes;
 mod job;
-mod refusals;
 mod rights;
 
-use bytes::table_length;
-pub use bytes::wide;
 pub use job::job_entries;
 use ranks::RankSet;
-use refusals::table_refusal;
 use rights::declared;
 use rights::processors_of;
 use state::State;
+use table_bytes::table_length;
+use table_bytes::table_refusal;
 
 // What the table reader returns: the refusal's number or 0, how many bytes the table has, its fresh state.
 pub struct TableRead {

@@ -3,15 +3,15 @@ ghost use mathlib.Core.Path.{_≡_};
 ghost use Prim.Native.Nat.{_≤_};
 ghost use Rattle.ranks.specs.Ranks.{limit};
 ghost use Rattle.state.specs.State.{read, write, mostObjects};
-ghost use Rattle.table.specs.Bytes.{entryCount};
-ghost use Rattle.table.specs.Refusals.{tableRefusal};
+ghost use Rattle.table_bytes.specs.Bytes.{entryCount};
+ghost use Rattle.table_bytes.specs.Refusals.{tableRefusal};
 ghost use Rattle.table.specs.Reading.{processorsOf, givesRight, withRight, declaredIn};
-use crate::bytes::entry_count;
-use crate::bytes::entry_start;
-use crate::bytes::wide;
 use ranks::with;
 use state::JobProcessors;
 use state::ObjectSets;
+use table_bytes::entry_count;
+use table_bytes::entry_start;
+use table_bytes::wide;
 
 // The ranks that may read and that may write, by object.
 pub struct Rights {

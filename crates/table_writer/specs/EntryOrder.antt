@@ -5,7 +5,7 @@ use mathlib.Core.List.{List, [], _∷_, _++_}
 use Prim.Native.Nat.{ℕ, _≤_, _<_}
 use native.Mathlib.Omega.{arith}
 use Rattle.state.specs.State.{mostObjects}
-use Rattle.table.specs.Bytes.{order}
+use Rattle.table_bytes.specs.Bytes.{order}
 use Rattle.table_writer.specs.Writing.{entryBytes}
 use Rattle.table_writer.specs.Laying.{entriesOfRank, entriesOfRanks}
 use Rattle.table_writer.specs.JoinedLaws.{joined-same, joined-none, joined-add}

@@ -14,8 +14,8 @@ use Rattle.basics.specs.Arrays.{at, at-zeros}
 use Rattle.ranks.specs.Ranks.{member}
 use Rattle.ranks.specs.RankLaws.{member-empty}
 use Rattle.state.specs.State.{read, write, mostObjects, zeros}
-use Rattle.table.specs.Bytes.{byte, processorsIn, jobsIn, objectsIn, entryCount, entriesStart, tableLength, rankIn, objectIn, modeIn, order, orderBefore}
-use Rattle.table.specs.Accepted.{Accepted, EntryFits}
+use Rattle.table_bytes.specs.Bytes.{byte, processorsIn, jobsIn, objectsIn, entryCount, entriesStart, tableLength, rankIn, objectIn, modeIn, order, orderBefore}
+use Rattle.table_bytes.specs.Accepted.{Accepted, EntryFits}
 use Rattle.table.specs.Reading.{givesRight, processorsOf, declaredIn, tableState}
 use Rattle.table_writer.specs.Writing.{wordBytes, entriesBytes, tableBytes}
 use Rattle.table_writer.specs.Laying.{modesIn, entriesOfRanks, headerOf}

@@ -14,7 +14,7 @@ use Rattle.basics.specs.Arrays.{at, put, at-put-same, at-put-other, length-put}
 use Rattle.ranks.specs.Ranks.{member, with}
 use Rattle.ranks.specs.RankLaws.{member-with-same, member-with-other}
 use Rattle.state.specs.State.{read, write, mostObjects}
-use Rattle.table.specs.Bytes.{rankIn, objectIn, modeIn}
+use Rattle.table_bytes.specs.Bytes.{rankIn, objectIn, modeIn}
 use Rattle.table.specs.Reading.{givesRight, withRight, declaredIn}
 
 -- ---- the mode made of two rights

@@ -10,9 +10,9 @@ use Rattle.state.specs.declared.State.{State}
 use Rattle.state.specs.State.{mostObjects, zeros, freshState}
 use Rattle.state.specs.WellFormed.{wellFormed}
 use Rattle.table.specs.declared.TableRead.{TableRead}
-use Rattle.table.specs.Bytes.{byte}
-use Rattle.table.specs.Refusals.{tableRefusal}
-use Rattle.table.specs.Accepted.{accepted, accepted-refusal}
+use Rattle.table_bytes.specs.Bytes.{byte}
+use Rattle.table_bytes.specs.Refusals.{tableRefusal}
+use Rattle.table_bytes.specs.Accepted.{accepted, accepted-refusal}
 use Rattle.table.specs.Reading.{readTable}
 use Rattle.table.specs.Fresh.{read-refusal, read-accepted}
 use Rattle.table_writer.specs.Writing.{tableBytes, written}

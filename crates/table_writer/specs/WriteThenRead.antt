@@ -14,8 +14,8 @@ use Rattle.ranks.specs.Ranks.{limit}
 use Rattle.ranks.specs.UnionLaws.{le-union}
 use Rattle.state.specs.declared.State.{State}
 use Rattle.state.specs.State.{read, write, mostObjects, zeros, freshState, declaredAny}
-use Rattle.table.specs.Bytes.{byte, processorsIn, jobsIn, objectsIn, entryCount, entriesStart, tableLength}
-use Rattle.table.specs.Accepted.{Accepted}
+use Rattle.table_bytes.specs.Bytes.{byte, processorsIn, jobsIn, objectsIn, entryCount, entriesStart, tableLength}
+use Rattle.table_bytes.specs.Accepted.{Accepted}
 use Rattle.table.specs.Declarations.{declared-fits}
 use Rattle.table.specs.Reading.{processorsOf, declaredIn, tableState}
 use Rattle.table_writer.specs.Writing.{headerBytes, wordBytes, entriesBytes, tableBytes}

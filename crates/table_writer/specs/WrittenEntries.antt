@@ -17,8 +17,8 @@ use Rattle.basics.specs.Arrays.{at, at-zeros}
 use Rattle.ranks.specs.Ranks.{member}
 use Rattle.ranks.specs.RankLaws.{member-zero, member-empty, same-members}
 use Rattle.state.specs.State.{read, write, mostObjects, zeros}
-use Rattle.table.specs.Bytes.{byte, jobsIn, objectsIn, entriesStart, rankIn, objectIn, modeIn, order, orderBefore}
-use Rattle.table.specs.Accepted.{EntryFits}
+use Rattle.table_bytes.specs.Bytes.{byte, jobsIn, objectsIn, entriesStart, rankIn, objectIn, modeIn, order, orderBefore}
+use Rattle.table_bytes.specs.Accepted.{EntryFits}
 use Rattle.table.specs.Reading.{givesRight, withRight, declaredIn}
 use Rattle.table_writer.specs.Writing.{entryBytes}
 use Rattle.table_writer.specs.Laying.{modesIn, entriesOfRank, entriesOfRanks}

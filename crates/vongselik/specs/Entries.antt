@@ -16,8 +16,8 @@ use lib.ListN.{length, take, drop, length-drop}
 use lib.Seq.{length-take-le}
 use Rattle.basics.specs.Choice.{if_then_else_}
 use Rattle.basics.specs.Loops.{oneIf}
-use Rattle.table.specs.Bytes.{rankIn, entryCount, entryStart}
-use Rattle.table.specs.Accepted.{Accepted, accepted}
+use Rattle.table_bytes.specs.Bytes.{rankIn, entryCount, entryStart}
+use Rattle.table_bytes.specs.Accepted.{Accepted, accepted}
 use Rattle.table.specs.JobEntries.{jobEntriesRefusal, jobEntries}
 use Rattle.table.specs.JobPart.{FirstFrom, part, ranks-ascend, entries-together, job-accepted}
 

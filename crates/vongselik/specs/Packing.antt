@@ -2,8 +2,8 @@
 -- Assumes nothing.
 use Prim.Native.Nat.{ℕ, _+_, _*_}
 use lib.ListN.{getD}
-use Rattle.manager.specs.declared.Answer.{Answer}
-use Rattle.manager.specs.Answers.{Paper, paper}
+use Rattle.events.specs.declared.Answer.{Answer}
+use Rattle.events.specs.Answers.{Paper, paper}
 
 -- four bytes as one number, the first byte on top
 abbrev pub fourBytes : ℕ → ℕ → ℕ → ℕ → ℕ

@@ -3,11 +3,11 @@ ghost use mathlib.Core.Path.{_≡_};
 ghost use Prim.Native.Nat.{_≤_, _<_, _+_, _*_};
 ghost use lib.ListN.{length};
 ghost use Rattle.basics.specs.Loops.{oneIf};
-ghost use Rattle.table.specs.Bytes.{word};
-ghost use Rattle.table.specs.Refusals.{tableRefusal};
+ghost use Rattle.table_bytes.specs.Bytes.{word};
+ghost use Rattle.table_bytes.specs.Refusals.{tableRefusal};
 ghost use Rattle.table.specs.JobEntries.{jobEntriesRefusal};
 ghost use Rattle.vongselik.specs.Entries.{partStart, startCell, lengthCell};
-use table::wide;
+use table_bytes::wide;
 
 // The number of 16 bits at an index, high byte first.
 fn word_at(bytes: &[u8], at: usize) -> usize

@@ -1,7 +1,7 @@
 // The lock manager for C: events, questions and tables on the parts of a state of the caller's, each lent by itself.
 ghost use mathlib.Core.Path.{_≡_};
 ghost use Rattle.state.specs.State.{stateOf};
-ghost use Rattle.manager.specs.Events.{step};
+ghost use Rattle.manager.specs.Step.{step};
 ghost use Rattle.vongselik.specs.Packing.{packed};
 
 mod asking;

@@ -1,7 +1,7 @@
 // An event's answer as one number.
 ghost use mathlib.Core.Path.{_≡_};
 ghost use Rattle.vongselik.specs.Packing.{fourBytes, packed};
-use manager::Answer;
+use events::Answer;
 
 // Four bytes as one number, the first byte on top.
 fn four_bytes(number: u8, a: u8, b: u8, c: u8) -> u32

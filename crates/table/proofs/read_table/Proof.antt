@@ -3,8 +3,8 @@
 use mathlib.Core.Path.{sym, _∙_}
 use denote.Ref.{now}
 use borrow.Author.Tests.{eq-eqb, ne-eqb}
-use Rattle.table.specs.Accepted.{accepted}
-use Rattle.table.specs.Refusals.{tableRefusal}
+use Rattle.table_bytes.specs.Accepted.{accepted}
+use Rattle.table_bytes.specs.Refusals.{tableRefusal}
 use Rattle.table.specs.Reading.{readTable}
 use borrow.Author.Needs.{needs}
 use Rattle.table.proofs.read_table.Statement.{statement}

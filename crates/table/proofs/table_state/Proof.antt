@@ -5,10 +5,10 @@ use mathlib.Core.Path.{_≡_, _∙_}
 use mathlib.Core.List.{List}
 use denote.Ref.{now}
 use native.Mathlib.Omega.{arith}
-use Rattle.table.specs.Accepted.{accepted}
+use Rattle.table_bytes.specs.Accepted.{accepted}
 use Rattle.state.specs.declared.State.{State}
 use Rattle.state.specs.State.{read, write, freshState}
-use Rattle.table.specs.Bytes.{processorsIn, jobsIn, objectsIn, entryCount}
+use Rattle.table_bytes.specs.Bytes.{processorsIn, jobsIn, objectsIn, entryCount}
 use Rattle.table.specs.Reading.{processorsOf, declaredIn, tableState}
 use borrow.Author.Needs.{needs}
 use Rattle.table.proofs.table_state.Statement.{statement}

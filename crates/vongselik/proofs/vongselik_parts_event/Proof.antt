@@ -1,7 +1,7 @@
 -- `vongselik::vongselik_parts_event` meets its contract: what `manager::act` does to the lent parts, and its answer packed.
 -- Assumes nothing.
 use mathlib.Core.Path.{ap, _∙_}
-use Rattle.manager.specs.declared.Outcome.{Outcome}
+use Rattle.events.specs.declared.Outcome.{Outcome}
 use Rattle.vongselik.specs.Packing.{packed}
 use borrow.Author.Needs.{needs}
 use Rattle.vongselik.proofs.vongselik_parts_event.Statement.{statement}

@@ -4,8 +4,8 @@
 use Prim.Native.Nat.{ℕ, _-_, _≤_, _<_}
 use native.Mathlib.Omega.{arith}
 use denote.Ref.{now}
-use Rattle.table.specs.Accepted.{accepted}
-use Rattle.table.specs.Bytes.{rankIn}
+use Rattle.table_bytes.specs.Accepted.{accepted}
+use Rattle.table_bytes.specs.Bytes.{rankIn}
 use borrow.Author.Count.{below-more}
 use borrow.Author.Needs.{needs}
 use Rattle.table.proofs.job.first_entry_from.Statement.{statement}

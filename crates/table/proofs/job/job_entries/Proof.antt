@@ -7,7 +7,7 @@ use native.Mathlib.Omega.{arith}
 use denote.Ref.{now}
 use borrow.Author.Tests.{eq-eqb, ne-eqb}
 use lib.ListN.{take, drop}
-use Rattle.table.specs.Accepted.{accepted}
+use Rattle.table_bytes.specs.Accepted.{accepted}
 use Rattle.table.specs.JobEntries.{jobEntriesRefusal, jobEntries}
 use Rattle.table.specs.JobPart.{job-accepted, entries-together}
 use borrow.Author.Needs.{needs}

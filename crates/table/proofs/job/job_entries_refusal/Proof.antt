@@ -4,8 +4,8 @@ use mathlib.Core.Path.{sym, _∙_}
 use denote.Ref.{now}
 use native.Mathlib.Omega.{arith}
 use borrow.Author.Tests.{not-true, not-false}
-use Rattle.table.specs.Refusals.{tableRefusal}
-use Rattle.table.specs.Accepted.{accepted}
+use Rattle.table_bytes.specs.Refusals.{tableRefusal}
+use Rattle.table_bytes.specs.Accepted.{accepted}
 use Rattle.basics.specs.Choice.{or-else-first}
 use Rattle.table.specs.JobEntries.{jobEntriesRefusal}
 use borrow.Author.Needs.{needs}

@@ -2,7 +2,7 @@
 -- Assumes nothing.
 use mathlib.Core.Path.{ap}
 use denote.Ref.{now}
-use Rattle.table.specs.Bytes.{byte}
+use Rattle.table_bytes.specs.Bytes.{byte}
 use borrow.Author.Needs.{needs}
 use Rattle.table.proofs.job.rank_at.Statement.{statement}
 use Rattle.table.proofs.job.rank_at.Tie as tie

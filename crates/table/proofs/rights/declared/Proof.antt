@@ -6,8 +6,8 @@ use Prim.Native.Nat.{ℕ, _+_, _-_, _≤_}
 use mathlib.Core.List.{List}
 use native.Mathlib.Omega.{arith}
 use denote.Ref.{now}
-use Rattle.table.specs.Accepted.{accepted}
-use Rattle.table.specs.Bytes.{byte, entryCount, entryStart}
+use Rattle.table_bytes.specs.Accepted.{accepted}
+use Rattle.table_bytes.specs.Bytes.{byte, entryCount, entryStart}
 use native.Mathlib.Numerals.{add-one}
 use Rattle.state.specs.State.{read, write}
 use Rattle.table.specs.Reading.{withRight, declaredIn}

@@ -5,14 +5,14 @@ use mathlib.Core.Path.{_≡_, refl, sym, ap, _∙_}
 use Prim.Native.Nat.{ℕ, _+_, _-_, _≤_, _<_}
 use native.Mathlib.Omega.{arith}
 use denote.Ref.{now}
-use Rattle.table.specs.Accepted.{accepted}
+use Rattle.table_bytes.specs.Accepted.{accepted}
 use mathlib.Core.List.{List, _++_}
 use lib.ListN.{length, getD, take, drop, set, length-drop}
 use lib.Seq.{getD-drop}
 use Rattle.basics.specs.Arrays.{copied-more}
 use Rattle.ranks.specs.Ranks.{limit}
 use Rattle.state.specs.State.{zeros}
-use Rattle.table.specs.Bytes.{jobsIn}
+use Rattle.table_bytes.specs.Bytes.{jobsIn}
 use Rattle.table.specs.Reading.{processorsOf}
 use borrow.Author.Needs.{needs}
 use Rattle.table.proofs.rights.processors_of.Statement.{statement}

@@ -7,8 +7,8 @@ use Prim.Native.Nat.{ℕ, _+_, _-_, _*_, _≤_}
 use native.Mathlib.Omega.{arith}
 use lib.Dec.{ltb}
 use Rattle.basics.specs.Loops.{oneIf}
-use Rattle.table.specs.Bytes.{byte, word, entryCount, entryStart}
-use Rattle.table.specs.Accepted.{accepted}
+use Rattle.table_bytes.specs.Bytes.{byte, word, entryCount, entryStart}
+use Rattle.table_bytes.specs.Accepted.{accepted}
 use Rattle.vongselik.specs.Entries.{smallerEntries, partStart, smaller-more, smaller-le}
 use borrow.Author.Needs.{needs}
 use Rattle.vongselik.proofs.entries.part_start.Statement.{statement}

@@ -1,0 +1,85 @@
+-- What an event's rule comes to once its tests are known: laws of the definitions in specs/Events.antt, and of requests in range.
+-- Assumes nothing.
+use mathlib.Core.Path.{_≡_, sym, ap, _∙_}
+use mathlib.Core.Logic.{_≢_, inl, inr}
+use mathlib.Core.Bool.{true, false}
+use mathlib.Core.List.{List}
+use Prim.Native.Nat.{ℕ, _≤_}
+use native.Mathlib.Omega.{arith}
+use native.Mathlib.Decide.{ℕ-discrete, decLe}
+use lib.ListN.{length}
+use borrow.Author.Tests.{ne-eqb, ltb-false, le-leb, lt-leb}
+use Rattle.basics.specs.Choice.{inside-between}
+use Rattle.basics.specs.Arrays.{at, put, at-put-same, at-put-other, at-out, length-put}
+use Rattle.ranks.specs.Ranks.{limit}
+use Rattle.state.specs.declared.State.{State}
+use Rattle.state.specs.State.{mostObjects, requestedMode, requestedObject, activate, await, grant}
+use Rattle.rule.specs.Keys.{Weigh, keyWeight, keyHolder, keyObject, lowestKeyBy}
+use Rattle.rule.specs.KeyLaws.{key-at}
+use Rattle.rule.specs.Granting.{passesBelow, reason, wakeable}
+use Rattle.events.specs.declared.Answer.the-variants.{Granted, Waits, Done}
+use Rattle.refusals.specs.Accepting.{RequestsFit}
+use Rattle.refusals.specs.Refusals.{modeOf}
+use Rattle.events.specs.Events.{outcome, requestMeeting, request, woken, wake, unlock, finish, accepted}
+
+-- ---- the rule of each kind
+
+module _ (s : State) (k r o : ℕ) where
+  pub accepted-start : k ≡ 1 → accepted s k r o ≡ outcome (Done 0) (activate s r)
+  unfolding accepted
+  accepted-start e = rw e
+
+  pub accepted-lock : 2 ≤ k → k ≤ 3 → accepted s k r o ≡ request s (modeOf k) r o
+  unfolding accepted
+  accepted-lock a b = simp (ne-eqb k 1 (λ e. omega arith), inside-between 2 3 k a b)
+
+  pub accepted-unlock : k ≡ 4 → accepted s k r o ≡ unlock s r o
+  unfolding accepted
+  accepted-unlock e = rw e
+
+  pub accepted-finish : 5 ≤ k → accepted s k r o ≡ finish s r
+  unfolding accepted
+  accepted-finish a = simp (ne-eqb k 1 (λ e. omega arith), le-leb 2 k (omega arith), lt-leb k 3 (omega arith), ne-eqb k 4 (λ e. omega arith))
+
+-- ---- a request
+
+pub granted : (s : State) (m r o k : ℕ) → passesBelow r k ≡ true → requestMeeting s m r o k ≡ outcome Granted (grant s m r o)
+unfolding requestMeeting
+granted s m r o k e = simp e
+
+pub waits : (s : State) (m r o k : ℕ) → passesBelow r k ≡ false
+    → requestMeeting s m r o k ≡ outcome (Waits (keyHolder k) (keyObject k) (reason s m o (keyHolder k) (keyObject k))) (await s m r o)
+unfolding requestMeeting
+waits s m r o k e = simp e
+
+-- the key that stops a request is a lock's: its holder and its object are in range
+pub stopped : (weigh : Weigh) (s : State) (j k : ℕ) → k ≡ lowestKeyBy weigh s j → passesBelow j k ≡ false → j ≤ limit → s .objects ≤ mostObjects
+    → (1 ≤ keyHolder k) × (keyHolder k ≤ limit) × (keyObject k ≤ mostObjects)
+stopped weigh s j k e fails l n = elim (key-at weigh s j) [
+  | inl z ↦ absurd (omega (arith, e, z, ltb-false j (keyWeight k) fails))
+  | inr w ↦ (let r = w .lock .rank in let o = w .lock .object in omega (arith, e, w .is, r, o))
+]
+
+-- ---- the woken job
+
+pub woken-none : (s : State) → wakeable s ≡ 0 → wake s ≡ outcome (Done 0) s
+unfolding wake woken
+woken-none s e = rw e
+
+pub woken-some : (s : State) (r : ℕ) → r ≡ wakeable s → r ≢ 0 → wake s ≡ outcome (Done r) (grant s (requestedMode s r) r (requestedObject s r))
+unfolding wake woken
+woken-some s r e d = rw (sym e) (simp (ne-eqb r 0 d))
+
+-- ---- requests in range stay in range
+
+pub put-zero : (requests : List ℕ) (r : ℕ) → 1 ≤ r → at (put requests r 0) r ≡ 0
+put-zero requests r h = elim (decLe r (length requests)) [
+  | yes l ↦ at-put-same requests r 0 h l
+  | no n ↦ at-out (put requests r 0) (length requests) r (length-put requests r 0) (λ b. n (b .1))
+]
+
+pub dropped-fits : (requests : List ℕ) (r : ℕ) → 1 ≤ r → RequestsFit requests → RequestsFit (put requests r 0)
+dropped-fits requests r h fit x a b d = elim (ℕ-discrete r x) [
+  | yes e ↦ absurd (d (ap (at (put requests r 0)) (sym e) ∙ put-zero requests r h))
+  | no n ↦ (let same = at-put-other requests r 0 x n in rw same (fit x a b (λ z. d (same ∙ z))))
+]

@@ -1,0 +1,140 @@
+-- `events::grant` meets its contract: an object's and a rank's elements stand at their indices.
+-- Assumes nothing.
+use mathlib.Core.Path.{_≡_, sym, ap, _∙_}
+use mathlib.Core.Bool.{Bool, true, false}
+use mathlib.Core.List.{List}
+use Prim.Native.Nat.{ℕ, _-_, _≤_}
+use lib.Dec.{eqb}
+use lib.ListN.{getD, set}
+use borrow.Author.Tests.{eq-eqb, ne-eqb}
+use Rattle.basics.specs.Choice.{if_then_else_}
+use Rattle.basics.specs.Arrays.{at, put, at-index, put-index}
+use Rattle.ranks.specs.Ranks.{with, without}
+use Rattle.state.specs.State.{grantReaders, grantWriters}
+use borrow.Author.Needs.{needs}
+use Rattle.events.proofs.changes.grant.Statement.{statement}
+use Rattle.events.proofs.changes.grant.Tie as tie
+
+-- an element changed at its index
+changed : (f : ℕ → ℕ) (xs : List ℕ) (o v : ℕ) → 1 ≤ o → v ≡ f (getD xs (o - 1) 0) → set xs (o - 1) v ≡ put xs o (f (at xs o))
+changed f xs o v h e =
+    ap (λ (w : ℕ). set xs (o - 1) w) (e ∙ ap f (sym (at-index xs o h))) ∙ sym (put-index xs o (f (at xs o)) h)
+
+-- what the test of the mode makes of both sets
+readers-by : (m r o : ℕ) (xs : List ℕ) (b : Bool) → eqb m 1 ≡ b → put xs o (if b then with (at xs o) r else without (at xs o) r) ≡ grantReaders m r o xs
+readers-by m r o xs b e = sym (ap (λ (t : Bool). put xs o (if t then with (at xs o) r else without (at xs o) r)) e)
+
+writers-by : (m r o : ℕ) (xs : List ℕ) (b : Bool) → eqb m 1 ≡ b → (if b then xs else put xs o (with (at xs o) r)) ≡ grantWriters m r o xs
+writers-by m r o xs b e = sym (ap (λ (t : Bool). if t then xs else put xs o (with (at xs o) r)) e)
+
+sub-i : tie.Need-sub-i
+sub-i c = search needs
+
+cast-i : tie.Need-cast-i
+cast-i c = search needs
+
+sub-j : tie.Need-sub-j
+sub-j c = search needs
+
+cast-j : tie.Need-cast-j
+cast-j c = search needs
+
+mul-request : tie.Need-mul-request
+mul-request c = search needs
+
+element-write-request : tie.Need-element-write-request
+element-write-request c = search needs
+
+mul-with : tie.Need-mul-with
+mul-with c = search needs
+
+element-copy-out-with : tie.Need-element-copy-out-with
+element-copy-out-with c = search needs
+
+with-requires : tie.Need-with-requires
+with-requires c κs = search needs
+
+mul-readers : tie.Need-mul-readers
+mul-readers c = search needs
+
+element-write-readers : tie.Need-element-write-readers
+element-write-readers c = search needs
+
+mul-without : tie.Need-mul-without
+mul-without c = search needs
+
+element-copy-out-without : tie.Need-element-copy-out-without
+element-copy-out-without c = search needs
+
+without-requires : tie.Need-without-requires
+without-requires c κs = search needs
+
+mul-readers-2 : tie.Need-mul-readers-2
+mul-readers-2 c = search needs
+
+element-write-readers-2 : tie.Need-element-write-readers-2
+element-write-readers-2 c = search needs
+
+mul-with-2 : tie.Need-mul-with-2
+mul-with-2 c = search needs
+
+element-copy-out-with-2 : tie.Need-element-copy-out-with-2
+element-copy-out-with-2 c = search needs
+
+with-requires-2 : tie.Need-with-requires-2
+with-requires-2 c κs = search needs
+
+mul-writers : tie.Need-mul-writers
+mul-writers c = search needs
+
+element-write-writers : tie.Need-element-write-writers
+element-write-writers c = search needs
+
+returns : tie.Need-returns
+returns c =
+    let a = c .before .before .before .args in
+    let e = eq-eqb (a .mode) 1 (c .before .before .if1 .taken) in (
+      changed (λ v. with v (a .rank)) (a .readers .now) (a .object) (c .with .result) (c .before .before .before .pre .2) (c .with .ensures)
+          ∙ readers-by (a .mode) (a .rank) (a .object) (a .readers .now) true e,
+      writers-by (a .mode) (a .rank) (a .object) (a .writers .now) true e,
+      sym (put-index (a .request .now) (a .rank) 0 (c .before .before .before .pre .0)),
+    )
+
+returns-2 : tie.Need-returns-2
+returns-2 c =
+    let a = c .before .before .before .before .before .args in
+    let e = ne-eqb (a .mode) 1 (c .before .before .before .before .if1 .left) in (
+      changed (λ v. without v (a .rank)) (a .readers .now) (a .object) (c .before .before .without .result) (c .before .before .before .before .before .pre .2) (c .before .before .without .ensures)
+          ∙ readers-by (a .mode) (a .rank) (a .object) (a .readers .now) false e,
+      changed (λ v. with v (a .rank)) (a .writers .now) (a .object) (c .with2 .result) (c .before .before .before .before .before .pre .2) (c .with2 .ensures)
+          ∙ writers-by (a .mode) (a .rank) (a .object) (a .writers .now) false e,
+      sym (put-index (a .request .now) (a .rank) 0 (c .before .before .before .before .before .pre .0)),
+    )
+
+pub grant-spec : {M : Type 1} → statement M
+grant-spec =
+    tie.close
+    (tie.spec
+    sub-i
+    cast-i
+    sub-j
+    cast-j
+    mul-request
+    element-write-request
+    mul-with
+    element-copy-out-with
+    with-requires
+    mul-readers
+    element-write-readers
+    mul-without
+    element-copy-out-without
+    without-requires
+    mul-readers-2
+    element-write-readers-2
+    mul-with-2
+    element-copy-out-with-2
+    with-requires-2
+    mul-writers
+    element-write-writers
+    returns
+    returns-2)

@@ -1,0 +1,104 @@
+-- `events::wake` meets its contract: whoever is found waits, so its request is for an object that the arrays have.
+-- Assumes nothing.
+use denote.Ref.{now}
+use mathlib.Core.Path.{_≡_, sym, ap, subst, _∙_}
+use Prim.Native.Nat.{ℕ, _-_, _≤_}
+use native.Mathlib.Omega.{arith}
+use lib.ListN.{getD}
+use Rattle.basics.specs.Arrays.{at, at-index}
+use Rattle.ranks.specs.Ranks.{limit}
+use Rattle.state.specs.State.{mostObjects, stateOf, modeIn, objectIn, grant}
+use Rattle.rule.specs.Granting.{wakeable}
+use Rattle.rule.specs.Parts.{waitsState, wakeable-parts}
+use Rattle.events.specs.declared.Answer.the-variants.{Done}
+use Rattle.events.specs.Events.{outcome}
+use Rattle.rule.specs.WakeLaws.{woken-waits}
+use Rattle.events.proofs.EventLaws as L
+use borrow.Author.Needs.{needs}
+use Rattle.events.proofs.wake.Statement.{statement}
+use Rattle.events.proofs.wake.Tie as tie
+
+-- whoever is found is a rank, and waits for an object that the arrays have
+pub record Found (request : ℕ) (rank : ℕ) : Type 0 where
+  pub first : 1 ≤ rank
+  pub last : rank ≤ limit
+  pub object : (1 ≤ objectIn request) × (objectIn request ≤ mostObjects)
+
+found : (c : tie.Then1) → let a = c .before .before .before .before .before .args in Found (at (now (a .request)) (c .before .wakeable .result)) (c .before .wakeable .result)
+found c =
+    let t = c .before .before .before .before .before in
+    let a = t .args in
+    let s = waitsState (a .jobs) (a .objects) (now (a .may-read)) (now (a .may-write)) (now (a .readers)) (now (a .writers)) (now (a .request)) in
+    let e = c .before .wakeable .ensures in
+    let w = woken-waits s (λ z. c .if1 .taken (e ∙ z)) in
+    let low : 1 ≤ c .before .wakeable .result = omega arith in
+    let high : c .before .wakeable .result ≤ limit = omega (arith, e, w .0, t .pre .0) in
+    record { first = low; last = high; object = t .pre .2 (c .before .wakeable .result) low high (λ z. w .1 (ap (at (now (a .request))) (sym e) ∙ z)) }
+
+-- the request that is read is the rank's
+asked : (c : tie.Then1) → let a = c .before .before .before .before .before .args in
+    getD (now (a .request)) (c .before .wakeable .result - 1) 0 ≡ at (now (a .request)) (c .before .wakeable .result)
+asked c = sym (at-index (now (c .before .before .before .before .before .args .request)) (c .before .wakeable .result) (found c .first))
+
+wakeable-requires : tie.Need-wakeable-requires
+wakeable-requires c κs = search needs
+
+sub-asked : tie.Need-sub-asked
+sub-asked c = search needs
+
+cast-asked : tie.Need-cast-asked
+cast-asked c = search needs
+
+mul-asked : tie.Need-mul-asked
+mul-asked c = search needs
+
+element-copy-out-asked : tie.Need-element-copy-out-asked
+element-copy-out-asked c = let f = found (c) in omega (arith, f .first, f .last)
+
+mode-in-requires : tie.Need-mode-in-requires
+mode-in-requires c κs = search needs
+
+object-in-requires : tie.Need-object-in-requires
+object-in-requires c κs = search needs
+
+grant-requires : tie.Need-grant-requires
+grant-requires c κs =
+    let f = found ((c .before .before .before .before .before .before)) in
+    let e = c .object-in .ensures ∙ ap objectIn (asked ((c .before .before .before .before .before .before))) in
+    (f .first, f .last, subst (λ (o : ℕ). 1 ≤ o) (sym e) (f .object .0), subst (λ (o : ℕ). o ≤ mostObjects) (sym e) (f .object .1))
+
+returns : tie.Need-returns
+unfolding grant
+returns c =
+    let b = c .before .before .before .before .before .before .before .before .before .before .before .before .args in
+    let r = c .before .before .before .before .before .before .before .before .wakeable .result in
+    let m = c .before .before .mode-in .ensures ∙ ap modeIn (asked ((c .before .before .before .before .before .before .before))) in
+    let o = c .before .object-in .ensures ∙ ap objectIn (asked ((c .before .before .before .before .before .before .before))) in
+    λ p a u ps.
+    let s = stateOf p (b .jobs) (b .objects) ps (now (b .may-read)) (now (b .may-write)) a u (now (b .readers)) (now (b .writers)) (now (b .request)) in
+    (λ i. outcome (Done r) (stateOf p (b .jobs) (b .objects) ps (now (b .may-read)) (now (b .may-write)) a u (c .grant .ensures .0 i) (c .grant .ensures .1 i) (c .grant .ensures .2 i)))
+    ∙ (λ i. outcome (Done r) (grant s (m i) r (o i)))
+    ∙ sym (L.woken-some s r (c .before .before .before .before .before .before .before .before .wakeable .ensures ∙ sym (wakeable-parts s)) (c .before .before .before .before .before .before .before .if1 .taken))
+
+returns-2 : tie.Need-returns-2
+returns-2 c =
+    let b = c .before .before .before .before .before .args in
+    λ p a u ps.
+    let s = stateOf p (b .jobs) (b .objects) ps (now (b .may-read)) (now (b .may-write)) a u (now (b .readers)) (now (b .writers)) (now (b .request)) in
+    ap (λ (r : ℕ). outcome (Done r) s) (c .if1 .left)
+    ∙ sym (L.woken-none s (wakeable-parts s ∙ sym (c .before .wakeable .ensures) ∙ c .if1 .left))
+
+pub wake-spec : {M : Type 1} → statement M
+wake-spec =
+    tie.close
+    (tie.spec
+    wakeable-requires
+    sub-asked
+    cast-asked
+    mul-asked
+    element-copy-out-asked
+    mode-in-requires
+    object-in-requires
+    grant-requires
+    returns
+    returns-2)

@@ -1,0 +1,251 @@
+// Events that are not refused, on the parts of a state, in place: one small function for each rule.
+ghost use mathlib.Core.Path.{_≡_};
+ghost use mathlib.Core.List.{List};
+ghost use Prim.Native.Nat.{ℕ, _≤_};
+ghost use Rattle.ranks.specs.Ranks.{with};
+ghost use Rattle.state.specs.State.{stateOf};
+ghost use Rattle.events.specs.declared.Answer.the-variants.{Done};
+ghost use Rattle.refusals.specs.Accepting.{RequestsFit, Accepting};
+ghost use Rattle.events.specs.Events as E;
+
+mod changes;
+
+use changes::grant;
+use changes::mode_in;
+use changes::object_in;
+use changes::release_set;
+use changes::release_sets;
+use changes::store_request;
+use ranks::RankSet;
+use refusals::set_of;
+use state::JobRequests;
+use state::ObjectSets;
+use state::State;
+
+// An event's answer: granted; waits for the lock of a holder on an object, with the reason; done, with the woken rank or 0; refused, with its number.
+pub enum Answer {
+    Granted,
+    Waits { holder: u8, object: u8, reason: u8 },
+    Done(u8),
+    Refused(u8),
+}
+
+// An event's answer and the next state.
+pub struct Outcome {
+    pub answer: Answer,
+    pub state: State,
+}
+
+// Kind 1: the job becomes active.
+fn start(active: &mut RankSet, rank: u8) -> Answer
+    requires { ⌜ (1 ≤ rank) × (rank ≤ 64) ⌝ }
+    ensures { λ r. ⌜ (r ≡ Done 0) × (now (active .exit) ≡ with (now (active .entry)) rank) ⌝ }
+{
+    *active = ranks::with(*active, rank);
+    Answer::Done(0)
+}
+
+// Kinds 2 and 3: the job gets the lock on the object in the mode, or waits for it.
+fn lock<'a>(
+    objects: u8,
+    may_read: &'a ObjectSets,
+    may_write: &'a ObjectSets,
+    readers: &mut ObjectSets,
+    writers: &mut ObjectSets,
+    request: &mut JobRequests,
+    mode: u8,
+    rank: u8,
+    object: u8,
+) -> Answer
+    requires { ⌜ (objects ≤ 128) × (mode ≤ 2) × (1 ≤ rank) × (rank ≤ 64) × (1 ≤ object) × (object ≤ 128) ⌝ }
+    ensures { λ r. ⌜ ((p j a u : ℕ) (ps : List ℕ) →
+        E.outcome r (stateOf p j objects ps (now («may_read» .entry)) (now («may_write» .entry)) a u (now (readers .exit)) (now (writers .exit)) (now (request .exit)))
+        ≡ E.request (stateOf p j objects ps (now («may_read» .entry)) (now («may_write» .entry)) a u (now (readers .entry)) (now (writers .entry)) (now (request .entry))) mode rank object) ⌝ }
+{
+    let key = rule::lowest_key(objects, may_read, may_write, readers, writers, rank);
+    if rule::passes(rank, key) {
+        grant(readers, writers, request, mode, rank, object);
+        return Answer::Granted;
+    }
+    let holder = rule::key_holder(key);
+    let named = rule::key_object(key);
+    let reason = rule::reason(
+        mode,
+        object,
+        holder,
+        named,
+        set_of(writers, named),
+        set_of(may_write, named),
+    );
+    store_request(request, rank, (mode as u16) * 256 + (object as u16));
+    Answer::Waits {
+        holder,
+        object: named,
+        reason,
+    }
+}
+
+// After kinds 4, 5 and 6: the most urgent waiting job whose request passes gets its lock.
+fn wake<'a>(
+    jobs: u8,
+    objects: u8,
+    may_read: &'a ObjectSets,
+    may_write: &'a ObjectSets,
+    readers: &mut ObjectSets,
+    writers: &mut ObjectSets,
+    request: &mut JobRequests,
+) -> Answer
+    requires { ⌜ (jobs ≤ 64) × (objects ≤ 128) × RequestsFit (now request) ⌝ }
+    ensures { λ r. ⌜ ((p a u : ℕ) (ps : List ℕ) →
+        E.outcome r (stateOf p jobs objects ps (now («may_read» .entry)) (now («may_write» .entry)) a u (now (readers .exit)) (now (writers .exit)) (now (request .exit)))
+        ≡ E.wake (stateOf p jobs objects ps (now («may_read» .entry)) (now («may_write» .entry)) a u (now (readers .entry)) (now (writers .entry)) (now (request .entry)))) ⌝ }
+{
+    let rank = rule::wakeable(
+        jobs,
+        objects,
+        may_read,
+        may_write,
+        readers,
+        writers,
+        request,
+    );
+    if rank != 0 {
+        let asked = request[(rank - 1) as usize];
+        grant(
+            readers,
+            writers,
+            request,
+            mode_in(asked),
+            rank,
+            object_in(asked),
+        );
+    }
+    Answer::Done(rank)
+}
+
+// Kind 4: the job gives up its lock on the object, and is marked.
+fn unlock<'a>(
+    jobs: u8,
+    objects: u8,
+    may_read: &'a ObjectSets,
+    may_write: &'a ObjectSets,
+    unlocked: &mut RankSet,
+    readers: &mut ObjectSets,
+    writers: &mut ObjectSets,
+    request: &mut JobRequests,
+    rank: u8,
+    object: u8,
+) -> Answer
+    requires { ⌜ (jobs ≤ 64) × (objects ≤ 128) × (1 ≤ rank) × (rank ≤ 64) × (1 ≤ object) × (object ≤ 128) × RequestsFit (now request) ⌝ }
+    ensures { λ r. ⌜ ((p a : ℕ) (ps : List ℕ) →
+        E.outcome r (stateOf p jobs objects ps (now («may_read» .entry)) (now («may_write» .entry)) a (now (unlocked .exit)) (now (readers .exit)) (now (writers .exit)) (now (request .exit)))
+        ≡ E.unlock (stateOf p jobs objects ps (now («may_read» .entry)) (now («may_write» .entry)) a (now (unlocked .entry)) (now (readers .entry)) (now (writers .entry)) (now (request .entry))) rank object) ⌝ }
+{
+    *unlocked = ranks::with(*unlocked, rank);
+    release_set(readers, rank, object);
+    release_set(writers, rank, object);
+    wake(
+        jobs,
+        objects,
+        may_read,
+        may_write,
+        readers,
+        writers,
+        request,
+    )
+}
+
+// Kinds 5 and 6: the job's run ends, with its locks and its request.
+fn finish<'a>(
+    jobs: u8,
+    objects: u8,
+    may_read: &'a ObjectSets,
+    may_write: &'a ObjectSets,
+    active: &mut RankSet,
+    unlocked: &mut RankSet,
+    readers: &mut ObjectSets,
+    writers: &mut ObjectSets,
+    request: &mut JobRequests,
+    rank: u8,
+) -> Answer
+    requires { ⌜ (jobs ≤ 64) × (objects ≤ 128) × (1 ≤ rank) × (rank ≤ 64) × RequestsFit (now request) ⌝ }
+    ensures { λ r. ⌜ ((p : ℕ) (ps : List ℕ) →
+        E.outcome r (stateOf p jobs objects ps (now («may_read» .entry)) (now («may_write» .entry)) (now (active .exit)) (now (unlocked .exit)) (now (readers .exit)) (now (writers .exit)) (now (request .exit)))
+        ≡ E.finish (stateOf p jobs objects ps (now («may_read» .entry)) (now («may_write» .entry)) (now (active .entry)) (now (unlocked .entry)) (now (readers .entry)) (now (writers .entry)) (now (request .entry))) rank) ⌝ }
+{
+    *active = ranks::without(*active, rank);
+    *unlocked = ranks::without(*unlocked, rank);
+    release_sets(readers, rank);
+    release_sets(writers, rank);
+    store_request(request, rank, 0);
+    wake(
+        jobs,
+        objects,
+        may_read,
+        may_write,
+        readers,
+        writers,
+        request,
+    )
+}
+
+// An event that is not refused.
+pub fn perform<'a>(
+    jobs: u8,
+    objects: u8,
+    may_read: &'a ObjectSets,
+    may_write: &'a ObjectSets,
+    active: &mut RankSet,
+    unlocked: &mut RankSet,
+    readers: &mut ObjectSets,
+    writers: &mut ObjectSets,
+    request: &mut JobRequests,
+    kind: u8,
+    rank: u8,
+    object: u8,
+) -> Answer
+    requires { ⌜ Accepting jobs objects (now request) kind rank object ⌝ }
+    ensures { λ r. ⌜ ((p : ℕ) (ps : List ℕ) →
+        E.outcome r (stateOf p jobs objects ps (now («may_read» .entry)) (now («may_write» .entry)) (now (active .exit)) (now (unlocked .exit)) (now (readers .exit)) (now (writers .exit)) (now (request .exit)))
+        ≡ E.accepted (stateOf p jobs objects ps (now («may_read» .entry)) (now («may_write» .entry)) (now (active .entry)) (now (unlocked .entry)) (now (readers .entry)) (now (writers .entry)) (now (request .entry))) kind rank object) ⌝ }
+{
+    match kind {
+        1 => start(active, rank),
+        2 | 3 => lock(
+            objects,
+            may_read,
+            may_write,
+            readers,
+            writers,
+            request,
+            kind - 1,
+            rank,
+            object,
+        ),
+        4 => unlock(
+            jobs,
+            objects,
+            may_read,
+            may_write,
+            unlocked,
+            readers,
+            writers,
+            request,
+            rank,
+            object,
+        ),
+        5 | 6 => finish(
+            jobs,
+            objects,
+            may_read,
+            may_write,
+            active,
+            unlocked,
+            readers,
+            writers,
+            request,
+            rank,
+        ),
+        0 | 7..=255 => Answer::Refused(9),
+    }
+}

@@ -1,0 +1,3 @@
+-- The lines of the bench record.
+pub mod Lines
+pub mod LineLaws

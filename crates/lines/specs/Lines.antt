@@ -1,0 +1,90 @@
+-- The lines of the bench record (01, "The bench record"), as bytes. The sentences in quotes are document 01's.
+-- Assumes nothing.
+use Prim.Native.Nat.{ℕ, zero, suc, _+_, _/_, _%_, _≤_}
+use mathlib.Core.Path.{_≡_}
+use mathlib.Core.List.{List, [], _∷_, _++_, map}
+use lib.Dec.{ltb}
+use lib.ListN.{length, drop}
+use Rattle.basics.specs.Choice.{if_then_else_, between}
+use Rattle.basics.specs.Arrays.{at}
+use Rattle.events.specs.declared.Answer.{Answer}
+use Rattle.events.specs.Answers.{Paper, paper}
+
+-- ---- "numbers in decimal without leading zeros"
+
+abbrev pub digit : ℕ → ℕ
+digit d = 48 + d
+
+-- the last `depth` digits of n, without leading zeros
+unfoldable pub decimalWithin : (depth n : ℕ) → List ℕ
+decimalWithin zero n = []
+decimalWithin (suc k) n = (if ltb n 10 then [] else decimalWithin k (n / 10)) ++ (digit (n % 10) ∷ [])
+
+-- n has no more than n + 1 digits
+unfoldable pub decimal : ℕ → List ℕ
+decimal n = decimalWithin (suc n) n
+
+-- ---- "Fields stand one space apart .. and every line ends with a line feed."
+
+abbrev pub space : ℕ
+space = 32
+
+abbrev pub lineFeed : ℕ
+lineFeed = 10
+
+-- what stands behind a line's first field: the others, each after a space, and the line feed
+abbrev pub behind : List (List ℕ) → List ℕ
+behind [] = lineFeed ∷ []
+behind (field ∷ fields) = space ∷ (field ++ behind fields)
+
+abbrev pub line : List ℕ → List (List ℕ) → List ℕ
+line field fields = field ++ behind fields
+
+-- ---- letters
+
+-- "kind letter (S R W U F A, `?` for others)"
+abbrev pub kindLetter : ℕ → ℕ
+kindLetter k = if between 1 6 k then at (83 ∷ 82 ∷ 87 ∷ 85 ∷ 70 ∷ 65 ∷ []) k else 63
+
+-- "then G, W holder object reason, D woken, or X refusal": G W D X by the answer's number among the four
+abbrev pub answerLetter : ℕ → ℕ
+answerLetter n = at (71 ∷ 87 ∷ 68 ∷ 88 ∷ []) n
+
+abbrev pub answerFields : Paper → List (List ℕ)
+answerFields p = (answerLetter (p .number) ∷ []) ∷ map decimal (p .values)
+
+-- ---- the lines
+
+-- "Line 1 gives mark, version, jobs, processors, objects.": `JOB`, 1 and the three counts
+unfoldable pub headerLine : (jobs processors objects : ℕ) → List ℕ
+headerLine jobs processors objects = line (74 ∷ 79 ∷ 66 ∷ []) (decimal 1 ∷ decimal jobs ∷ decimal processors ∷ decimal objects ∷ [])
+
+-- "Each event's line has its number, kind letter .., rank, object, then" the answer
+unfoldable pub eventLine : (number kind rank object : ℕ) → Answer → List ℕ
+eventLine number kind rank object answer =
+    line (decimal number) ((kindLetter kind ∷ []) ∷ decimal rank ∷ decimal object ∷ answerFields (paper answer))
+
+-- "The last line is `end` and the event count"
+unfoldable pub endLine : (events : ℕ) → List ℕ
+endLine events = line (101 ∷ 110 ∷ 100 ∷ []) (decimal events ∷ [])
+
+-- "or `short` if one or two bytes are left over"
+unfoldable pub shortLine : List ℕ
+shortLine = line (115 ∷ 104 ∷ 111 ∷ 114 ∷ 116 ∷ []) []
+
+-- "A refused table gives the single line `X` and its number."
+unfoldable pub refusedLine : (number : ℕ) → List ℕ
+refusedLine number = line (88 ∷ []) (decimal number ∷ [])
+
+-- ---- a line in a buffer
+
+-- a buffer with a line laid at its front, and the bytes behind as they were
+abbrev pub atFront : List ℕ → List ℕ → List ℕ
+atFront text buffer = text ++ drop (length text) buffer
+
+-- what a line's function does: it answers the line's length, and the buffer of 64 bytes has the line at its front
+pub record LineLaid (text before after : List ℕ) (answer : ℕ) : Type 0 where
+  pub counted : answer ≡ length text
+  pub front : after ≡ atFront text before
+  pub room : 64 ≡ length after
+  pub within : answer ≤ 64

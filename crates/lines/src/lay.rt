@@ -1,0 +1,182 @@
+// The parts of a line, laid into a buffer one behind the other: each answers the index behind its part.
+ghost use mathlib.Core.Path.{_≡_};
+ghost use mathlib.Core.List.{[], _∷_};
+ghost use Prim.Native.Nat.{_+_, _≤_, _<_};
+ghost use lib.ListN.{length};
+ghost use Rattle.lines.specs.Lines.{decimal, space, behind, kindLetter, answerFields, headerLine, eventLine, endLine, shortLine, refusedLine};
+ghost use Rattle.lines.specs.LineLaws.{Laid};
+ghost use Rattle.events.specs.Answers.{paper};
+use events::Answer;
+
+// A byte laid at the index.
+pub fn lay_byte(buf: &mut [u8], at: usize, byte: u8) -> usize
+    requires { ⌜ at < length (now buf) ⌝ }
+    ensures { λ r. ⌜ Laid (now (buf .entry)) (now (buf .exit)) at r 1 (byte ∷ []) ⌝ }
+{
+    buf[at] = byte;
+    at + 1
+}
+
+// Three bytes laid from the index on.
+pub fn lay_three(buf: &mut [u8], at: usize, a: u8, b: u8, c: u8) -> usize
+    requires { ⌜ at + 3 ≤ length (now buf) ⌝ }
+    ensures { λ r. ⌜ Laid (now (buf .entry)) (now (buf .exit)) at r 3 (a ∷ b ∷ c ∷ []) ⌝ }
+{
+    let second = lay_byte(buf, at, a);
+    let third = lay_byte(buf, second, b);
+    lay_byte(buf, third, c)
+}
+
+// A number's decimal digits laid from the index on, without leading zeros.
+pub fn lay_number(buf: &mut [u8], at: usize, number: u64) -> usize
+    requires { ⌜ at + 20 ≤ length (now buf) ⌝ }
+    ensures { λ r. ⌜ Laid (now (buf .entry)) (now (buf .exit)) at r 20 (decimal number) ⌝ }
+{
+    lay_digits(buf, at, number)
+}
+
+// The same, where just the digits have room.
+fn lay_digits(buf: &mut [u8], at: usize, number: u64) -> usize
+    requires { ⌜ at + length (decimal number) ≤ length (now buf) ⌝ }
+    ensures { λ r. ⌜ Laid (now (buf .entry)) (now (buf .exit)) at r (length (decimal number)) (decimal number) ⌝ }
+{
+    if number < 10 {
+        return lay_byte(buf, at, 48 + number as u8);
+    }
+    let end = lay_digits(buf, at, number / 10);
+    lay_byte(buf, end, 48 + (number % 10) as u8)
+}
+
+// A space and a letter.
+pub fn lay_letter(buf: &mut [u8], at: usize, letter: u8) -> usize
+    requires { ⌜ at + 2 ≤ length (now buf) ⌝ }
+    ensures { λ r. ⌜ Laid (now (buf .entry)) (now (buf .exit)) at r 2 (space ∷ letter ∷ []) ⌝ }
+{
+    let end = lay_byte(buf, at, b' ');
+    lay_byte(buf, end, letter)
+}
+
+// A space and a number.
+pub fn lay_field(buf: &mut [u8], at: usize, number: u8) -> usize
+    requires { ⌜ at + 4 ≤ length (now buf) ⌝ }
+    ensures { λ r. ⌜ Laid (now (buf .entry)) (now (buf .exit)) at r 4 (space ∷ decimal number) ⌝ }
+{
+    let end = lay_byte(buf, at, b' ');
+    lay_digits(buf, end, number as u64)
+}
+
+// The letter of an event's kind.
+pub fn kind_letter(kind: u8) -> u8
+    ensures { λ r. ⌜ r ≡ kindLetter kind ⌝ }
+{
+    match kind {
+        1 => b'S',
+        2 => b'R',
+        3 => b'W',
+        4 => b'U',
+        5 => b'F',
+        6 => b'A',
+        0 | 7..=255 => b'?',
+    }
+}
+
+// What stands behind an event's object: the answer's letter and values, and the line feed.
+pub fn lay_answer(buf: &mut [u8], at: usize, answer: Answer) -> usize
+    requires { ⌜ at + 15 ≤ length (now buf) ⌝ }
+    ensures { λ r. ⌜ Laid (now (buf .entry)) (now (buf .exit)) at r 15 (behind (answerFields (paper answer))) ⌝ }
+{
+    match answer {
+        Answer::Granted => {
+            let end = lay_letter(buf, at, b'G');
+            lay_byte(buf, end, b'\n')
+        }
+        Answer::Waits {
+            holder,
+            object,
+            reason,
+        } => {
+            let by = lay_letter(buf, at, b'W');
+            let on = lay_field(buf, by, holder);
+            let why = lay_field(buf, on, object);
+            lay_last(buf, why, reason)
+        }
+        Answer::Done(woken) => {
+            let end = lay_letter(buf, at, b'D');
+            lay_last(buf, end, woken)
+        }
+        Answer::Refused(number) => {
+            let end = lay_letter(buf, at, b'X');
+            lay_last(buf, end, number)
+        }
+    }
+}
+
+// A space and a number, the last of its line, and the line feed.
+pub fn lay_last(buf: &mut [u8], at: usize, number: u8) -> usize
+    requires { ⌜ at + 5 ≤ length (now buf) ⌝ }
+    ensures { λ r. ⌜ Laid (now (buf .entry)) (now (buf .exit)) at r 5 (behind (decimal number ∷ [])) ⌝ }
+{
+    let end = lay_field(buf, at, number);
+    lay_byte(buf, end, b'\n')
+}
+
+// An event's line.
+pub fn lay_event(
+    buf: &mut [u8],
+    at: usize,
+    number: u64,
+    kind: u8,
+    rank: u8,
+    object: u8,
+    answer: Answer,
+) -> usize
+    requires { ⌜ at + 45 ≤ length (now buf) ⌝ }
+    ensures { λ r. ⌜ Laid (now (buf .entry)) (now (buf .exit)) at r 45 (eventLine number kind rank object answer) ⌝ }
+{
+    let of = lay_number(buf, at, number);
+    let by = lay_letter(buf, of, kind_letter(kind));
+    let on = lay_field(buf, by, rank);
+    let then = lay_field(buf, on, object);
+    lay_answer(buf, then, answer)
+}
+
+// The first line.
+pub fn lay_header(buf: &mut [u8], jobs: u8, processors: u8, objects: u8) -> usize
+    requires { ⌜ 20 ≤ length (now buf) ⌝ }
+    ensures { λ r. ⌜ Laid (now (buf .entry)) (now (buf .exit)) 0 r 20 (headerLine jobs processors objects) ⌝ }
+{
+    let mark = lay_three(buf, 0, b'J', b'O', b'B');
+    let version = lay_field(buf, mark, 1);
+    let end = lay_field(buf, version, jobs);
+    let next = lay_field(buf, end, processors);
+    lay_last(buf, next, objects)
+}
+
+// The last line of a whole record.
+pub fn lay_end(buf: &mut [u8], events: u64) -> usize
+    requires { ⌜ 25 ≤ length (now buf) ⌝ }
+    ensures { λ r. ⌜ Laid (now (buf .entry)) (now (buf .exit)) 0 r 25 (endLine events) ⌝ }
+{
+    let word = lay_three(buf, 0, b'e', b'n', b'd');
+    let space = lay_byte(buf, word, b' ');
+    let end = lay_number(buf, space, events);
+    lay_byte(buf, end, b'\n')
+}
+
+// The last line of a record with bytes left over.
+pub fn lay_short(buf: &mut [u8]) -> usize
+    requires { ⌜ 6 ≤ length (now buf) ⌝ }
+    ensures { λ r. ⌜ Laid (now (buf .entry)) (now (buf .exit)) 0 r 6 shortLine ⌝ }
+{
+    let middle = lay_three(buf, 0, b's', b'h', b'o');
+    lay_three(buf, middle, b'r', b't', b'\n')
+}
+
+// The line of a refused table.
+pub fn lay_refused(buf: &mut [u8], number: u8) -> usize
+    requires { ⌜ 6 ≤ length (now buf) ⌝ }
+    ensures { λ r. ⌜ Laid (now (buf .entry)) (now (buf .exit)) 0 r 6 (refusedLine number) ⌝ }
+{
+    let end = lay_byte(buf, 0, b'X');
+    lay_last(buf, end, number)
+}

@@ -1,0 +1,9 @@
+// Table bytes: where their parts stand, and the refusals 1 to 7.
+mod bytes;
+mod refusals;
+
+pub use bytes::entry_count;
+pub use bytes::entry_start;
+pub use bytes::table_length;
+pub use bytes::wide;
+pub use refusals::table_refusal;
