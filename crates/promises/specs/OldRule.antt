@@ -26,7 +26,7 @@ use Rattle.inheritance.specs.Running.{inheritedFrom, isReady, readyKey, running
 use Rattle.events.specs.Answers.{paper}
 use Rattle.refusals.specs.Refusals.{isRequest, modeOf, refusal, processorRefusal}
 use Rattle.events.specs.Events.{requestMeeting, request, accepted}
-use Rattle.manager.specs.Step.{step}
+use Rattle.manager.specs.Step.{step, step-accepted}
 use Rattle.questions.specs.Answers.{rankReply, value}
 use Rattle.questions.specs.Questions.{running}
 use Rattle.theory.specs.Keeps.{TopHolder, named-top, top-not-waiting}
@@ -195,10 +195,6 @@ refused-number : (s : State) (k r o n : ℕ) → refusal s k r o ≡ suc n → p
 unfolding step
 refused-number s k r o n e = simp (e, ne-eqb (suc n) 0 (λ q. omega arith))
 
-not-refused-step : (s : State) (k r o : ℕ) → refusal s k r o ≡ 0 → step s k r o ≡ accepted s k r o
-unfolding step
-not-refused-step s k r o e = simp e
-
 pub one-request : (s : State) → Kept s → s .processors ≡ 1 → (k j o : ℕ) → isRequest k ≡ true → value (rankReply (running s 0)) 0 0 ≡ j
     → paper (step s k j o .answer) .number ≢ 4 → step s k j o ≡ oldRequest s (modeOf k) j o
 one-request s K one k j o kind run ok = go (refusal s k j o) refl
@@ -206,6 +202,6 @@ one-request s K one k j o kind run ok = go (refusal s k j o) refl
     go : (n : ℕ) → refusal s k j o ≡ n → step s k j o ≡ oldRequest s (modeOf k) j o
     go zero e =
         let rank = not-refused s k j o e .rank in
-        not-refused-step s k j o e ∙ accepted-request s k j o kind
+        step-accepted s k j o e ∙ accepted-request s k j o kind
         ∙ request-same s (modeOf k) j o (same-key s K one j (rank .0) (rank .1) (sym (running-is s K one) ∙ run))
     go (suc n) e = absurd (ok (refused-number s k j o n e))
