@@ -1,5 +1,5 @@
 /* The processor time of three managers on the same events, run in turn: the plain C peer, the library's event, `event` by value.
- * Usage: speed ROUNDS < LOAD, where LOAD is a table and then events of three bytes. Prints the ratios of the two to the peer, from the middle round of each.
+ * Usage: speed ROUNDS < LOAD, where LOAD is a table and then events of three bytes. Prints the ratios of the two to the peer: of each round's, the middle one.
  * Built with the folder of the peer on the include path. */
 #define _POSIX_C_SOURCE 199309L
 #define main peer_main
@@ -64,6 +64,16 @@ static int in_order(const void *a, const void *b)
     return (x > y) - (x < y);
 }
 
+/* The ratio of a manager's time to the peer's in the same round: the middle one of all rounds. */
+static double middle_ratio(int manager, int rounds)
+{
+    double ratios[MOST_ROUNDS];
+    int k;
+    for (k = 0; k < rounds; k++) ratios[k] = times[manager][k] / times[PEER][k];
+    qsort(ratios, (size_t)rounds, sizeof ratios[0], in_order);
+    return ratios[rounds / 2];
+}
+
 int main(int argc, char **argv)
 {
     int rounds = argc > 1 ? atoi(argv[1]) : 11, k, i;
@@ -81,7 +91,6 @@ int main(int argc, char **argv)
             }
             times[manager][k] = now() - start;
         }
-    for (i = 0; i < MANAGERS; i++) qsort(times[i], (size_t)rounds, sizeof times[i][0], in_order);
-    printf("library %.2f, event by value %.2f", times[LIBRARY][rounds / 2] / times[PEER][rounds / 2], times[BY_VALUE][rounds / 2] / times[PEER][rounds / 2]);
+    printf("library %.2f, event by value %.2f", middle_ratio(LIBRARY, rounds), middle_ratio(BY_VALUE, rounds));
     return 0;
 }
