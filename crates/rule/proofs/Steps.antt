@@ -1,4 +1,4 @@
--- Where the element of a rank or an object stands, and what an array says with one element more.
+-- The lowest key on an object, and over all objects, by the arrays that hold the objects' sets.
 -- Assumes nothing.
 use mathlib.Core.Path.{_≡_, _∙_}
 use mathlib.Core.List.{List}
