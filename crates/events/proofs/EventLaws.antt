@@ -14,8 +14,8 @@ use Rattle.basics.specs.Arrays.{at, put, at-put-same, at-put-other, at-out, len
 use Rattle.ranks.specs.Ranks.{limit}
 use Rattle.state.specs.declared.State.{State}
 use Rattle.state.specs.State.{mostObjects, requestedMode, requestedObject, activate, await, grant}
-use Rattle.rule.specs.Keys.{Weigh, keyWeight, keyHolder, keyObject, lowestKeyBy}
-use Rattle.rule.specs.KeyLaws.{key-at}
+use Rattle.weights.specs.Keys.{Weigh, keyWeight, keyHolder, keyObject, lowestKeyBy}
+use Rattle.weights.specs.KeyLaws.{key-at}
 use Rattle.rule.specs.Granting.{passesBelow, reason, wakeable}
 use Rattle.events.specs.declared.Answer.the-variants.{Granted, Waits, Done}
 use Rattle.refusals.specs.Accepting.{RequestsFit}

@@ -5,7 +5,7 @@ use lib.Dec.{eqb}
 use Rattle.basics.specs.Choice.{if_then_else_}
 use Rattle.state.specs.declared.State.{State}
 use Rattle.state.specs.State.{requestedMode, requestedObject, activate, await, grant, release, endRun}
-use Rattle.rule.specs.Keys.{keyHolder, keyObject, lowestKey}
+use Rattle.weights.specs.Keys.{keyHolder, keyObject, lowestKey}
 use Rattle.rule.specs.Granting.{passesBelow, reason, wakeable}
 use Rattle.events.specs.declared.Outcome.{Outcome}
 use Rattle.events.specs.declared.Answer.{Answer}

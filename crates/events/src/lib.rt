@@ -62,13 +62,13 @@ fn lock<'a>(
         E.outcome r (stateOf p j objects ps (now («may_read» .entry)) (now («may_write» .entry)) a u (now (readers .exit)) (now (writers .exit)) (now (request .exit)))
         ≡ E.request (stateOf p j objects ps (now («may_read» .entry)) (now («may_write» .entry)) a u (now (readers .entry)) (now (writers .entry)) (now (request .entry))) mode rank object) ⌝ }
 {
-    let key = rule::lowest_key(objects, may_read, may_write, readers, writers, rank);
+    let key = weights::lowest_key(objects, may_read, may_write, readers, writers, rank);
     if rule::passes(rank, key) {
         grant(readers, writers, request, mode, rank, object);
         return Answer::Granted;
     }
-    let holder = rule::key_holder(key);
-    let named = rule::key_object(key);
+    let holder = weights::key_holder(key);
+    let named = weights::key_object(key);
     let reason = rule::reason(
         mode,
         object,

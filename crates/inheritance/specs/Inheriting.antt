@@ -14,7 +14,7 @@ use Rattle.basics.specs.Loops.{least, least-same}
 use Rattle.ranks.specs.Ranks.{member}
 use Rattle.state.specs.declared.State.{State}
 use Rattle.state.specs.State.{isWaiting}
-use Rattle.rule.specs.Keys.{noKey}
+use Rattle.weights.specs.Keys.{noKey}
 use Rattle.rule.specs.Granting.{namedKey, namedHolder}
 use Rattle.inheritance.specs.Running.{inheritedFrom, inheritedRank, isReady, readyKey, runningRank}
 

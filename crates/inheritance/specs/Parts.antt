@@ -6,8 +6,8 @@ use mathlib.Core.List.{List}
 use Prim.Native.Nat.{ℕ}
 use Rattle.state.specs.declared.State.{State}
 use Rattle.state.specs.State.{stateOf}
-use Rattle.rule.specs.Weights.{weight}
-use Rattle.rule.specs.Keys.{othersKey, objectKey, lowestKeyBy}
+use Rattle.weights.specs.Weights.{weight}
+use Rattle.weights.specs.Keys.{othersKey, objectKey, lowestKeyBy}
 use Rattle.rule.specs.Granting.{namedKey}
 use Rattle.rule.specs.Parts.{waitsOf}
 use Rattle.inheritance.specs.Running.{inheritedRank, runningRank}

@@ -7,7 +7,7 @@ use Rattle.basics.specs.Choice.{if_then_else_}
 use Rattle.basics.specs.Loops.{least}
 use Rattle.state.specs.declared.State.{State}
 use Rattle.state.specs.State.{processorOf, isActive, isWaiting}
-use Rattle.rule.specs.Keys.{noKey}
+use Rattle.weights.specs.Keys.{noKey}
 use Rattle.rule.specs.Granting.{namedHolder}
 
 -- r, if it waits and names j; else j

@@ -8,13 +8,13 @@ ghost use Rattle.inheritance.specs.Inheriting as I;
 ghost use Rattle.rule.specs.Parts.{waitsState};
 ghost use Rattle.inheritance.specs.Parts.{runState};
 use ranks::RankSet;
-use rule::NO_KEY;
-use rule::key_holder;
-use rule::lower;
 use rule::named_key;
 use state::JobProcessors;
 use state::JobRequests;
 use state::ObjectSets;
+use weights::NO_KEY;
+use weights::key_holder;
+use weights::lower;
 
 // A rank for each rank.
 type JobRanks = [u8; 64];

@@ -14,8 +14,8 @@ use Rattle.state.specs.WellFormed.{writersAlone, waitsFit, marksFit, wellFormed
 use Rattle.table_bytes.specs.Refusals.{headerRefusal, lengthRefusal, processorRefusal, entryRefusal, entriesRefusal, tableRefusal}
 use Rattle.table.specs.Example.{example}
 use Rattle.table.specs.Reading.{processorsOf, withRight, declaredIn, tableState, readTable}
-use Rattle.rule.specs.Weights.{weight}
-use Rattle.rule.specs.Keys.{othersKey, objectKey, lowestKeyBy}
+use Rattle.weights.specs.Weights.{weight}
+use Rattle.weights.specs.Keys.{othersKey, objectKey, lowestKeyBy}
 use Rattle.rule.specs.Granting.{namedKey, reason, wakeable}
 use Rattle.inheritance.specs.Running as R
 use Rattle.inheritance.specs.Running.{runningRank}

@@ -13,7 +13,7 @@ use Rattle.state.specs.State.{mostObjects, read, write, declared, holders, hold
 use Rattle.state.specs.Facts.{In, RequestFacts, Facts}
 use Rattle.state.specs.Changes.{overTable, Same, grant-others, grant-same}
 use Rattle.state.specs.Keeping.{NoConflict, read-granted, write-granted}
-use Rattle.rule.specs.Weights.{weight}
+use Rattle.weights.specs.Weights.{weight}
 use Rattle.theory.specs.Machine.{Passes, Took}
 use Rattle.promises.specs.Weights.{weightIf, read-own, read-writer, write-any, write-below-read, weight-small}
 use Rattle.promises.specs.Weights.{heldWeight, lockWeight, lock-below}

@@ -17,9 +17,9 @@ use Rattle.state.specs.State.{processorOf, isActive, requestOf}
 use Rattle.state.specs.Facts.{Facts}
 use Rattle.state.specs.Modes.{either-mode}
 use Rattle.state.specs.WellFormedFacts.{facts-well-formed, held-rank}
-use Rattle.rule.specs.Weights.{writeCeiling, absoluteCeiling, moreUrgent, weight, oldWeight}
-use Rattle.rule.specs.Keys.{noKey, keyWeight, keyHolder, lowestKey, oldLowestKey}
-use Rattle.rule.specs.KeyLaws.{OthersLock, KeyOfOther, key-below, key-top, key-at, le-key}
+use Rattle.weights.specs.Weights.{writeCeiling, absoluteCeiling, moreUrgent, weight, oldWeight}
+use Rattle.weights.specs.Keys.{noKey, keyWeight, keyHolder, lowestKey, oldLowestKey}
+use Rattle.weights.specs.KeyLaws.{OthersLock, KeyOfOther, key-below, key-top, key-at, le-key}
 use Rattle.rule.specs.Granting.{passes, oldPasses, namedKey}
 use Rattle.inheritance.specs.Running as R
 use Rattle.inheritance.specs.Running.{inheritedFrom, isReady, readyKey, runningRank}

@@ -18,7 +18,7 @@ use Rattle.state.specs.Facts.{RequestFacts, Facts}
 use Rattle.state.specs.Changes.{activate-same, await-same, await-request, grant-request, grant-same, end-request, end-same, end-none}
 use Rattle.state.specs.Changes.{release-others, release-none, release-same}
 use Rattle.state.specs.Keeping.{activate-keeps, await-keeps, release-keeps, end-keeps, grant-keeps}
-use Rattle.rule.specs.Keys.{keyHolder, keyObject, lowestKey}
+use Rattle.weights.specs.Keys.{keyHolder, keyObject, lowestKey}
 use Rattle.rule.specs.Granting.{passes, reason, wakeable}
 use Rattle.events.specs.declared.Outcome.{Outcome}
 use Rattle.events.specs.declared.Answer.the-variants.{Granted, Waits, Refused}

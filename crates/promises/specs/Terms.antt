@@ -9,7 +9,7 @@ use Rattle.basics.specs.Choice.{if_then_else_}
 use Rattle.state.specs.declared.State.{State}
 use Rattle.state.specs.Facts.{Sized}
 use Rattle.table.specs.Fresh.{Fresh}
-use Rattle.rule.specs.Keys.{oldLowestKey}
+use Rattle.weights.specs.Keys.{oldLowestKey}
 use Rattle.events.specs.declared.Outcome.{Outcome}
 use Rattle.events.specs.Answers.{Paper, paper}
 use Rattle.refusals.specs.Refusals.{isRequest, modeOf}

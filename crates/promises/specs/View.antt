@@ -13,7 +13,7 @@ use Rattle.state.specs.declared.State.{State}
 use Rattle.state.specs.State.{isActive, hasUnlocked, requestOf, requestedObject}
 use Rattle.state.specs.Facts.{Facts}
 use Rattle.state.specs.WellFormedFacts.{facts-well-formed, held-object, waiting-rank}
-use Rattle.rule.specs.Keys.{keyWeight, keyHolder, keyObject, lowestKey}
+use Rattle.weights.specs.Keys.{keyWeight, keyHolder, keyObject, lowestKey}
 use Rattle.rule.specs.Granting.{passes, namedKey}
 use Rattle.refusals.specs.Refusals.{jobRefusal}
 use Rattle.questions.specs.Questions.{namedLock}

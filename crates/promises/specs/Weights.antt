@@ -17,9 +17,9 @@ use Rattle.state.specs.State.{read, write, declared, holds}
 use Rattle.state.specs.Facts.{In, Facts}
 use Rattle.state.specs.Modes.{either-mode}
 use Rattle.state.specs.WellFormedFacts.{held-rank, held-object}
-use Rattle.rule.specs.Weights.{writeCeiling, absoluteCeiling, moreUrgent, weight}
-use Rattle.rule.specs.Keys.{lockKey, noKey, keyWeight, lowestKey}
-use Rattle.rule.specs.KeyLaws.{OthersLock, KeyOfOther, key-below, key-at}
+use Rattle.weights.specs.Weights.{writeCeiling, absoluteCeiling, moreUrgent, weight}
+use Rattle.weights.specs.Keys.{lockKey, noKey, keyWeight, lowestKey}
+use Rattle.weights.specs.KeyLaws.{OthersLock, KeyOfOther, key-below, key-at}
 use Rattle.rule.specs.Granting.{passes}
 use Rattle.theory.specs.Machine.{Blocked, Passes}
 use Rattle.theory.specs.Key.{Lowest, key-passes, key-blocked}

@@ -106,8 +106,8 @@ pub fn ask_named_lock<'a>(
         request[(rank - 1) as usize],
         rank,
     );
-    let holder = rule::key_holder(key);
-    let object = rule::key_object(key);
+    let holder = weights::key_holder(key);
+    let object = weights::key_object(key);
     NamedAnswer::Lock { holder, object }
 }
 
@@ -149,8 +149,8 @@ pub fn ask_ceilings<'a>(
     let write = set_of(may_write, object);
     let either = ranks::union(set_of(may_read, object), write);
     CeilingsAnswer::Ceilings {
-        write: rule::ceiling(write),
-        absolute: rule::ceiling(either),
+        write: weights::ceiling(write),
+        absolute: weights::ceiling(either),
     }
 }
 

@@ -13,8 +13,8 @@ use Rattle.state.specs.WellFormed.{writersAlone, waitsFit, marksFit, wellFormed
 use Rattle.table_bytes.specs.Refusals.{headerRefusal, lengthRefusal, processorRefusal, entryRefusal, entriesRefusal, tableRefusal}
 use Rattle.table.specs.Example.{example}
 use Rattle.table.specs.Reading.{processorsOf, withRight, declaredIn, tableState, readTable}
-use Rattle.rule.specs.Weights.{weight}
-use Rattle.rule.specs.Keys.{othersKey, objectKey, lowestKeyBy}
+use Rattle.weights.specs.Weights.{weight}
+use Rattle.weights.specs.Keys.{othersKey, objectKey, lowestKeyBy}
 use Rattle.rule.specs.Granting.{namedKey, reason, wakeable}
 use Rattle.refusals.specs.Refusals.{eventRefusal, refusal}
 use Rattle.events.specs.Events.{requestMeeting, woken, wake, accepted}

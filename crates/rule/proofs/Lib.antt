@@ -1,3 +1,1 @@
-mod Firsts
-mod Steps
 mod Searching

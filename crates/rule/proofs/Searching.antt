@@ -14,12 +14,13 @@ use Rattle.basics.specs.Choice.{if_then_else_, _orElse_}
 use Rattle.basics.specs.Loops.{least, least-le, firstNonzero, first-nonzero-more, first-nonzero-keeps}
 use Rattle.ranks.specs.Ranks.{member}
 use Rattle.state.specs.State.{write, isWaiting}
-use Rattle.rule.specs.Weights.{ceilingOf}
-use Rattle.rule.specs.Keys.{noKey, lowestKey}
+use Rattle.weights.specs.Weights.{ceilingOf}
+use Rattle.weights.specs.Keys.{noKey, lowestKey}
 use Rattle.rule.specs.Granting.{passesBelow, passes, wakes, namedKeyOf, reasonOf}
-use Rattle.rule.specs.Parts.{keyAt, waitsState}
+use Rattle.weights.specs.Parts.{keyAt}
+use Rattle.rule.specs.Parts.{waitsState}
 use Rattle.basics.specs.Arrays.{at-next}
-use Rattle.rule.proofs.Steps.{waits-key}
+use Rattle.rule.specs.Parts.{waits-key}
 
 -- ---- the named key
 

@@ -8,8 +8,8 @@ use Rattle.basics.specs.Loops.{firstNonzero}
 use Rattle.ranks.specs.Ranks.{member}
 use Rattle.state.specs.declared.State.{State}
 use Rattle.state.specs.State.{write, holders, declared, requestOf, isWaiting}
-use Rattle.rule.specs.Weights.{ceilingOf}
-use Rattle.rule.specs.Keys.{noKey, keyWeight, keyHolder, keyObject, lowestKey, oldLowestKey}
+use Rattle.weights.specs.Weights.{ceilingOf}
+use Rattle.weights.specs.Keys.{noKey, keyWeight, keyHolder, keyObject, lowestKey, oldLowestKey}
 
 -- "A request is granted if the requester's rank is more urgent than the weight of every lock held by others."
 abbrev pub passesBelow : ℕ → ℕ → Bool

@@ -1,8 +1,4 @@
--- The rule of 1PI-RWPCP: ceilings and weights, keys, who is named and why, who is woken.
-pub mod Weights
-pub mod Keys
-pub mod KeyLaws
-pub mod ObjectKeys
+-- The rule of 1PI-RWPCP: who is granted a lock, who is named and why, who is woken.
 pub mod Granting
 pub mod WakeLaws
 pub mod Parts

@@ -7,10 +7,11 @@ use native.Mathlib.Omega.{arith}
 use Rattle.basics.specs.Arrays.{at}
 use Rattle.ranks.specs.Ranks.{limit}
 use Rattle.state.specs.State.{mostObjects, stateOf, grant, await}
-use Rattle.rule.specs.Weights.{weight}
-use Rattle.rule.specs.Keys.{keyHolder, keyObject}
+use Rattle.weights.specs.Weights.{weight}
+use Rattle.weights.specs.Keys.{keyHolder, keyObject}
 use Rattle.rule.specs.Granting.{reason, reasonOf}
-use Rattle.rule.specs.Parts.{locksState, lowest-key-parts, reason-parts}
+use Rattle.weights.specs.Parts.{locksState, lowest-key-parts}
+use Rattle.rule.specs.Parts.{reason-parts}
 use Rattle.events.specs.declared.Answer.the-variants.{Granted, Waits}
 use Rattle.events.specs.Events.{outcome, requestMeeting}
 use Rattle.events.proofs.EventLaws as L

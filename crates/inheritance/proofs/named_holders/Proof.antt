@@ -7,9 +7,10 @@ use native.Mathlib.Omega.{arith}
 use lib.ListN.{length}
 use denote.Ref.{now}
 use Rattle.basics.specs.Arrays.{at, at-next, stored}
-use Rattle.rule.specs.Keys.{keyHolder, lowestKey}
+use Rattle.weights.specs.Keys.{keyHolder, lowestKey}
 use Rattle.rule.specs.Granting.{namedKeyOf, namedKey, namedHolder}
-use Rattle.rule.specs.Parts.{waitsState, locksState, named-key-parts}
+use Rattle.weights.specs.Parts.{locksState}
+use Rattle.rule.specs.Parts.{waitsState, named-key-parts}
 use borrow.Author.Needs.{needs}
 use Rattle.inheritance.proofs.named_holders.Statement.{statement}
 use Rattle.inheritance.proofs.named_holders.Tie as tie

@@ -8,7 +8,7 @@ use native.Mathlib.Omega.{arith}
 use denote.Ref.{now}
 use Rattle.basics.specs.Arrays.{at, at-next}
 use Rattle.basics.specs.Loops.{least, least-more}
-use Rattle.rule.specs.Keys.{noKey}
+use Rattle.weights.specs.Keys.{noKey}
 use Rattle.inheritance.specs.Inheriting.{readyBy, readyKeyBy, runningBy}
 use borrow.Author.Needs.{needs}
 use Rattle.inheritance.proofs.running_by.Statement.{statement}

@@ -2,9 +2,9 @@
 -- Assumes nothing.
 use mathlib.Core.Path.{sym, ap, _∙_}
 use denote.Ref.{now}
-use Rattle.rule.specs.Keys.{lowestKey}
+use Rattle.weights.specs.Keys.{lowestKey}
 use Rattle.rule.specs.Granting.{passesBelow}
-use Rattle.rule.specs.Parts.{locksState}
+use Rattle.weights.specs.Parts.{locksState}
 use Rattle.rule.proofs.Searching.{named-none, named-passes, named-stopped}
 use borrow.Author.Needs.{needs}
 use Rattle.rule.proofs.named_key.Statement.{statement}

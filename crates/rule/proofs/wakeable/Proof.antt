@@ -9,9 +9,10 @@ use native.Mathlib.Omega.{arith}
 use denote.Ref.{now}
 use borrow.Author.Tests.{ltb-true, not-true, not-false}
 use Rattle.basics.specs.Loops.{least, least-more, firstNonzero}
-use Rattle.rule.specs.Keys.{noKey}
+use Rattle.weights.specs.Keys.{noKey}
 use Rattle.rule.specs.Granting.{passesBelow, wakes, wakeable}
-use Rattle.rule.specs.Parts.{keyAt, waitsState}
+use Rattle.weights.specs.Parts.{keyAt}
+use Rattle.rule.specs.Parts.{waitsState}
 use Rattle.rule.proofs.Searching.{pass-idle, pass-stopped, found}
 use borrow.Author.Needs.{needs}
 use Rattle.rule.proofs.wakeable.Statement.{statement}

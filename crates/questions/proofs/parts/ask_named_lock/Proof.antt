@@ -4,9 +4,10 @@ use native.Mathlib.Omega.{arith}
 use Prim.Native.Nat.{ℕ, _≤_}
 use Rattle.basics.specs.Arrays.{at-index}
 use Rattle.ranks.specs.Ranks.{limit}
-use Rattle.rule.specs.Keys.{keyHolder, keyObject, lowestKey}
+use Rattle.weights.specs.Keys.{keyHolder, keyObject, lowestKey}
 use Rattle.rule.specs.Granting.{namedKey, namedKeyOf}
-use Rattle.rule.specs.Parts.{locksOf, named-key-parts}
+use Rattle.weights.specs.Parts.{locksOf}
+use Rattle.rule.specs.Parts.{named-key-parts}
 use Rattle.refusals.specs.Accepting.{Asking, job-asking}
 use Rattle.refusals.specs.Accepting.{asking}
 use denote.Ref.{now}

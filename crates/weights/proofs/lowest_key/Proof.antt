@@ -1,4 +1,4 @@
--- `rule::lowest_key` meets its contract. The loop's invariant: `lowest` is the lowest key on the objects passed. A turn takes one object more,
+-- `weights::lowest_key` meets its contract. The loop's invariant: `lowest` is the lowest key on the objects passed. A turn takes one object more,
 -- and the number of objects left falls.
 -- Assumes nothing.
 use mathlib.Core.Path.{_≡_, refl, sym, ap, ap₂, _∙_}
@@ -6,11 +6,11 @@ use Prim.Native.Nat.{ℕ, _≤_, _-_, min}
 use native.Mathlib.Omega.{arith}
 use denote.Ref.{now}
 use Rattle.basics.specs.Loops.{least, least-more}
-use Rattle.rule.specs.Keys.{noKey}
-use Rattle.rule.specs.Parts.{keyAt, lowest-key-at}
+use Rattle.weights.specs.Keys.{noKey}
+use Rattle.weights.specs.Parts.{keyAt, lowest-key-at}
 use borrow.Author.Needs.{needs}
-use Rattle.rule.proofs.lowest_key.Statement.{statement}
-use Rattle.rule.proofs.lowest_key.Tie as tie
+use Rattle.weights.proofs.lowest_key.Statement.{statement}
+use Rattle.weights.proofs.lowest_key.Tie as tie
 
 abbrev Inv-loop : tie.InvT-loop
 Inv-loop objects may-read may-write readers writers rank lowest₀ done₀ lowest done =

@@ -1,12 +1,12 @@
--- `rule::reader_key` meets its contract: no reader, no key; else the first reader's key is the lowest, by `reader-key-first`.
+-- `weights::reader_key` meets its contract: no reader, no key; else the first reader's key is the lowest, by `reader-key-first`.
 -- Assumes nothing.
 use mathlib.Core.Path.{sym}
 use Prim.Native.Nat.{_<_}
 use native.Mathlib.Omega.{arith}
-use Rattle.rule.proofs.Firsts.{reader-key-none, reader-key-first}
+use Rattle.weights.proofs.Firsts.{reader-key-none, reader-key-first}
 use borrow.Author.Needs.{needs}
-use Rattle.rule.proofs.reader_key.Statement.{statement}
-use Rattle.rule.proofs.reader_key.Tie as tie
+use Rattle.weights.proofs.reader_key.Statement.{statement}
+use Rattle.weights.proofs.reader_key.Tie as tie
 
 returns : tie.Need-returns
 returns c =

@@ -1,12 +1,12 @@
--- `rule::key_at` meets its contract: the sets of object o stand at o - 1.
+-- `weights::key_at` meets its contract: the sets of object o stand at o - 1.
 -- Assumes nothing.
 use mathlib.Core.Path.{sym, _∙_}
 use native.Mathlib.Omega.{arith}
 use denote.Ref.{now}
-use Rattle.rule.proofs.Steps.{key-there}
+use Rattle.weights.proofs.Sets.{key-there}
 use borrow.Author.Needs.{needs}
-use Rattle.rule.proofs.key_at.Statement.{statement}
-use Rattle.rule.proofs.key_at.Tie as tie
+use Rattle.weights.proofs.key_at.Statement.{statement}
+use Rattle.weights.proofs.key_at.Tie as tie
 
 sub-i : tie.Need-sub-i
 sub-i c = search needs

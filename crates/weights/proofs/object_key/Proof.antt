@@ -1,11 +1,11 @@
--- `rule::object_key` meets its contract: with no holder there is no key, and else it is the definition.
+-- `weights::object_key` meets its contract: with no holder there is no key, and else it is the definition.
 -- Assumes nothing.
 use mathlib.Core.Path.{sym}
-use Rattle.rule.specs.ObjectKeys.{objectKeyOf}
-use Rattle.rule.proofs.Firsts.{object-key-none}
+use Rattle.weights.specs.ObjectKeys.{objectKeyOf}
+use Rattle.weights.proofs.Firsts.{object-key-none}
 use borrow.Author.Needs.{needs}
-use Rattle.rule.proofs.object_key.Statement.{statement}
-use Rattle.rule.proofs.object_key.Tie as tie
+use Rattle.weights.proofs.object_key.Statement.{statement}
+use Rattle.weights.proofs.object_key.Tie as tie
 
 returns : tie.Need-returns
 returns c =

@@ -12,9 +12,9 @@ use Rattle.basics.specs.Loops.{least, least-top, least-le, le-least}
 use Rattle.ranks.specs.Ranks.{limit, member, without, first, union}
 use Rattle.ranks.specs.RankLaws.{first-least, first-member, first-pos, first-le, first-some, member-empty, without-empty}
 use Rattle.ranks.specs.UnionLaws.{empty-union}
-use Rattle.rule.specs.Weights.{ceilingOf, moreUrgent}
-use Rattle.rule.specs.Keys.{lockKey, noKey}
-use Rattle.rule.specs.ObjectKeys.{readerKey, writerKey, objectKeyOf}
+use Rattle.weights.specs.Weights.{ceilingOf, moreUrgent}
+use Rattle.weights.specs.Keys.{lockKey, noKey}
+use Rattle.weights.specs.ObjectKeys.{readerKey, writerKey, objectKeyOf}
 
 module _ (k top set : ℕ) (f : ℕ → ℕ) where
   over : ℕ → ℕ

@@ -1,12 +1,12 @@
--- `rule::writer_key` meets its contract: no writer, no key; else the first writer's key is the lowest, by `writer-key-first`.
+-- `weights::writer_key` meets its contract: no writer, no key; else the first writer's key is the lowest, by `writer-key-first`.
 -- Assumes nothing.
 use mathlib.Core.Path.{sym}
 use Prim.Native.Nat.{_<_}
 use native.Mathlib.Omega.{arith}
-use Rattle.rule.proofs.Firsts.{writer-key-none, writer-key-first}
+use Rattle.weights.proofs.Firsts.{writer-key-none, writer-key-first}
 use borrow.Author.Needs.{needs}
-use Rattle.rule.proofs.writer_key.Statement.{statement}
-use Rattle.rule.proofs.writer_key.Tie as tie
+use Rattle.weights.proofs.writer_key.Statement.{statement}
+use Rattle.weights.proofs.writer_key.Tie as tie
 
 returns : tie.Need-returns
 returns c =

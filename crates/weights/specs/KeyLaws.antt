@@ -15,7 +15,7 @@ use Rattle.basics.specs.Loops.{least, least-top, least-le, least-at}
 use Rattle.ranks.specs.Ranks.{limit}
 use Rattle.state.specs.declared.State.{State}
 use Rattle.state.specs.State.{mostObjects, read, write, holds}
-use Rattle.rule.specs.Keys.{lockKey, noKey, keyHolder, keyObject, Weigh, othersKey, objectKey, lowestKeyBy}
+use Rattle.weights.specs.Keys.{lockKey, noKey, keyHolder, keyObject, Weigh, othersKey, objectKey, lowestKeyBy}
 
 -- r, another job than j, holds a lock on o in mode m
 pub record OthersLock (s : State) (j m r o : ℕ) : Type 0 where

@@ -13,8 +13,8 @@ use Rattle.ranks.specs.Ranks.{limit, member, without, union}
 use Rattle.ranks.specs.RankLaws.{member-without-same, member-without-other}
 use Rattle.state.specs.declared.State.{State}
 use Rattle.state.specs.State.{read, write, holders, declared}
-use Rattle.rule.specs.Weights.{ceilingOf, moreUrgent, weight}
-use Rattle.rule.specs.Keys.{lockKey, noKey, othersKey, objectKey}
+use Rattle.weights.specs.Weights.{ceilingOf, moreUrgent, weight}
+use Rattle.weights.specs.Keys.{lockKey, noKey, othersKey, objectKey}
 
 -- the key of r's lock on o, if r is one of the holders
 abbrev pub heldKey : ℕ → ℕ → ℕ → ℕ → ℕ

@@ -1,0 +1,2 @@
+mod Firsts
+mod Sets

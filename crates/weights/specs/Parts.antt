@@ -1,0 +1,37 @@
+-- The lowest key over parts of a state: the state that has what a function of the code sees, all else 0 or empty, and the same key by the arrays.
+-- Assumes nothing.
+use mathlib.Core.Path.{_≡_, refl}
+use mathlib.Core.List.{List, []}
+use Prim.Native.Nat.{ℕ}
+use Rattle.basics.specs.Arrays.{at}
+use Rattle.basics.specs.Loops.{least, least-same}
+use Rattle.state.specs.declared.State.{State}
+use Rattle.state.specs.State.{stateOf}
+use Rattle.weights.specs.Weights.{weight}
+use Rattle.weights.specs.Keys.{noKey, othersKey, objectKey, lowestKey, lowestKeyBy}
+use Rattle.weights.specs.ObjectKeys.{objectKeyOf, object-key-sets}
+
+-- a state with these declarations and locks on so many objects
+abbrev pub locksState : ℕ → List ℕ → List ℕ → List ℕ → List ℕ → State
+locksState objects mayRead mayWrite readers writers = stateOf 0 0 objects [] mayRead mayWrite 0 0 readers writers []
+
+-- a state's part
+abbrev pub locksOf : State → State
+locksOf s = locksState (s .objects) (s .«may_read») (s .«may_write») (s .readers) (s .writers)
+
+-- the lowest key among the locks that others than j hold on o, by the arrays of the objects' sets
+unfoldable pub keyAt : List ℕ → List ℕ → List ℕ → List ℕ → ℕ → ℕ → ℕ
+keyAt mayRead mayWrite readers writers j o = objectKeyOf (at readers o) (at writers o) (at mayRead o) (at mayWrite o) o j
+
+-- the same question about the part
+pub lowest-key-parts : (s : State) (j : ℕ) → lowestKey s j ≡ lowestKey (locksOf s) j
+unfolding lowestKeyBy objectKey othersKey weight
+lowest-key-parts s j = refl
+
+-- one object more
+pub lowest-key-at : (objects : ℕ) (mayRead mayWrite readers writers : List ℕ) (j : ℕ)
+    → lowestKey (locksState objects mayRead mayWrite readers writers) j ≡ least objects noKey (keyAt mayRead mayWrite readers writers j)
+unfolding lowestKeyBy keyAt
+lowest-key-at objects mayRead mayWrite readers writers j =
+    least-same objects noKey _ (keyAt mayRead mayWrite readers writers j)
+    (λ o a b. object-key-sets (locksState objects mayRead mayWrite readers writers) j o)

@@ -1,0 +1,145 @@
+// Ceilings, what a lock weighs, and the key that orders locks: the lock that stops a request has the lowest.
+// A function sees the parts of a state that it asks about: an object's sets of ranks by value, an object's array by reference.
+ghost use mathlib.Core.Path.{_≡_};
+ghost use Prim.Native.Nat.{_≤_, min};
+ghost use Rattle.ranks.specs.Ranks.{limit};
+ghost use Rattle.state.specs.State.{mostObjects};
+ghost use Rattle.weights.specs.Weights as W;
+ghost use Rattle.weights.specs.Keys as K;
+ghost use Rattle.weights.specs.ObjectKeys as O;
+ghost use Rattle.weights.specs.Parts as P;
+use ranks::RankSet;
+use state::ObjectSets;
+
+// The key of no lock: above the key of every lock.
+pub const NO_KEY: u64 = 0x100_0000;
+
+// The more urgent of two ranks or ceilings.
+pub fn more_urgent(a: u16, b: u16) -> u16
+    ensures { λ r. ⌜ r ≡ W.moreUrgent a b ⌝ }
+{
+    if a < b { a } else { b }
+}
+
+// The most urgent rank of the set, and 65 for nobody.
+pub fn ceiling(set: RankSet) -> u16
+    ensures { λ r. ⌜ r ≡ W.ceilingOf set ⌝ }
+{
+    ranks::first(set) as u16
+}
+
+// The lower of two keys.
+pub fn lower(a: u64, b: u64) -> u64
+    ensures { λ r. ⌜ r ≡ min a b ⌝ }
+{
+    if a < b { a } else { b }
+}
+
+// The key of a lock: ordered by weight, then holder, then object.
+fn lock_key(weight: u16, holder: u8, object: u8) -> u64
+    ensures { λ r. ⌜ r ≡ K.lockKey weight holder object ⌝ }
+{
+    (weight as u64) * 65536 + (holder as u64) * 256 + (object as u64)
+}
+
+// The holder of the lock with the key; 0 for no lock.
+pub fn key_holder(key: u64) -> u8
+    ensures { λ r. ⌜ r ≡ K.keyHolder key ⌝ }
+{
+    (key / 256 % 256) as u8
+}
+
+// The object of the lock with the key; 0 for no lock.
+pub fn key_object(key: u64) -> u8
+    ensures { λ r. ⌜ r ≡ K.keyObject key ⌝ }
+{
+    (key % 256) as u8
+}
+
+// The lowest key among the read locks that the readers hold on the object.
+fn reader_key(readers: RankSet, may_write: RankSet, object: u8) -> u64
+    ensures { λ r. ⌜ r ≡ O.readerKey readers «may_write» object ⌝ }
+{
+    if readers == 0 {
+        return NO_KEY;
+    }
+    let reader = ranks::first(readers);
+    let weight = more_urgent(ceiling(may_write), reader as u16);
+    lock_key(weight, reader, object)
+}
+
+// The lowest key among the write locks that the writers hold on the object.
+fn writer_key(writers: RankSet, may_read: RankSet, may_write: RankSet, object: u8) -> u64
+    ensures { λ r. ⌜ r ≡ O.writerKey writers «may_read» «may_write» object ⌝ }
+{
+    if writers == 0 {
+        return NO_KEY;
+    }
+    lock_key(ceiling(may_read | may_write), ranks::first(writers), object)
+}
+
+// The lowest key among the locks that others than the rank hold on the object.
+pub fn object_key(
+    readers: RankSet,
+    writers: RankSet,
+    may_read: RankSet,
+    may_write: RankSet,
+    object: u8,
+    rank: u8,
+) -> u64
+    requires { ⌜ (1 ≤ rank) × (rank ≤ limit) ⌝ }
+    ensures { λ r. ⌜ r ≡ O.objectKeyOf readers writers «may_read» «may_write» object rank ⌝ }
+{
+    if (readers | writers) == 0 {
+        return NO_KEY;
+    }
+    lower(
+        reader_key(ranks::without(readers, rank), may_write, object),
+        writer_key(ranks::without(writers, rank), may_read, may_write, object),
+    )
+}
+
+// The same of an object by its number.
+pub fn key_at<'a>(
+    may_read: &'a ObjectSets,
+    may_write: &'a ObjectSets,
+    readers: &'a ObjectSets,
+    writers: &'a ObjectSets,
+    object: u8,
+    rank: u8,
+) -> u64
+    requires { ⌜ (1 ≤ object) × (object ≤ mostObjects) × (1 ≤ rank) × (rank ≤ limit) ⌝ }
+    ensures { λ r. ⌜ r ≡ P.keyAt (now («may_read» .entry)) (now («may_write» .entry)) (now (readers .entry)) (now (writers .entry)) rank object ⌝ }
+{
+    let i = (object - 1) as usize;
+    object_key(
+        readers[i],
+        writers[i],
+        may_read[i],
+        may_write[i],
+        object,
+        rank,
+    )
+}
+
+// The lowest key among the locks that others than the rank hold.
+pub fn lowest_key<'a>(
+    objects: u8,
+    may_read: &'a ObjectSets,
+    may_write: &'a ObjectSets,
+    readers: &'a ObjectSets,
+    writers: &'a ObjectSets,
+    rank: u8,
+) -> u64
+    requires { ⌜ (objects ≤ mostObjects) × (1 ≤ rank) × (rank ≤ limit) ⌝ }
+    ensures { λ r. ⌜ r ≡ K.lowestKey (P.locksState objects (now («may_read» .entry)) (now («may_write» .entry)) (now (readers .entry)) (now (writers .entry))) rank ⌝ }
+{
+    let mut lowest = NO_KEY;
+    let mut done: u8 = 0;
+    while done < objects {
+        done += 1;
+        let key = key_at(may_read, may_write, readers, writers, done, rank);
+        lowest = lower(lowest, key);
+    }
+    lowest
+}
