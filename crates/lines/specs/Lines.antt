@@ -1,28 +1,14 @@
 -- The lines of the bench record (01, "The bench record"), as bytes. The sentences in quotes are document 01's.
 -- Assumes nothing.
-use Prim.Native.Nat.{ℕ, zero, suc, _+_, _/_, _%_, _≤_}
+use Prim.Native.Nat.{ℕ, _≤_}
 use mathlib.Core.Path.{_≡_}
 use mathlib.Core.List.{List, [], _∷_, _++_, map}
-use lib.Dec.{ltb}
 use lib.ListN.{length, drop}
 use Rattle.basics.specs.Choice.{if_then_else_, between}
 use Rattle.basics.specs.Arrays.{at}
+use Rattle.decimals.specs.Decimal.{decimal}
 use Rattle.events.specs.declared.Answer.{Answer}
 use Rattle.events.specs.Answers.{Paper, paper}
-
--- ---- "numbers in decimal without leading zeros"
-
-abbrev pub digit : ℕ → ℕ
-digit d = 48 + d
-
--- the last `depth` digits of n, without leading zeros
-unfoldable pub decimalWithin : (depth n : ℕ) → List ℕ
-decimalWithin zero n = []
-decimalWithin (suc k) n = (if ltb n 10 then [] else decimalWithin k (n / 10)) ++ (digit (n % 10) ∷ [])
-
--- n has no more than n + 1 digits
-unfoldable pub decimal : ℕ → List ℕ
-decimal n = decimalWithin (suc n) n
 
 -- ---- "Fields stand one space apart .. and every line ends with a line feed."
 

@@ -11,7 +11,7 @@ use Rattle.basics.specs.Threes.{drop-three}
 use Rattle.state.specs.declared.State.{State}
 use Rattle.manager.specs.Step.{step}
 use Rattle.lines.specs.Lines.{eventLine}
-use Rattle.lines.specs.LineLaws.{Laid, laid-then, laid-is}
+use Rattle.decimals.specs.Laid.{Laid, laid-then, laid-is}
 use Rattle.record.specs.Record.{eventLines, stateAfter}
 use Rattle.record.specs.RecordLaws.{event-lines-more, state-after-more, event-lines-none, state-after-none}
 

@@ -19,7 +19,8 @@ use Rattle.rule.specs.Granting.{namedKey, reason, wakeable}
 use Rattle.refusals.specs.Refusals.{eventRefusal, refusal}
 use Rattle.events.specs.Events.{requestMeeting, woken, wake, accepted}
 use Rattle.manager.specs.Step.{step}
-use Rattle.lines.specs.Lines.{decimalWithin, decimal, headerLine, eventLine, endLine, shortLine, refusedLine}
+use Rattle.decimals.specs.Decimal.{decimalWithin, decimal}
+use Rattle.lines.specs.Lines.{headerLine, eventLine, endLine, shortLine, refusedLine}
 use Rattle.record.specs.Record.{eventLines, recordOf}
 
 -- the twelve events, three bytes each

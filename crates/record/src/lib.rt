@@ -5,7 +5,7 @@ ghost use lib.ListN.{length};
 ghost use Rattle.state.specs.State.{stateOf};
 ghost use Rattle.manager.specs.Step.{step};
 ghost use Rattle.lines.specs.Lines.{eventLine};
-ghost use Rattle.lines.specs.LineLaws.{Laid};
+ghost use Rattle.decimals.specs.Laid.{Laid};
 ghost use Rattle.record.specs.Record.{eventLines, stateAfter};
 use lines::lay_event;
 use ranks::RankSet;

@@ -12,14 +12,6 @@ use Rattle.record.specs.RecordLaws.{used-within}
 use borrow.Author.Needs.{needs}
 use Rattle.bench.proofs.main.Statement.{statement}
 use Rattle.bench.proofs.main.Tie as tie
-use Rattle.bench.proofs.main.Reads as reads
-use Rattle.bench.proofs.main.Lts as lts
-use Rattle.bench.proofs.write_events.Reads as write-events-reads
-use Rattle.bench.proofs.write_header.Reads as write-header-reads
-use Rattle.bench.proofs.write_refused.Reads as write-refused-reads
-use Rattle.io.proofs.large_buffer.Reads as large-buffer-reads
-use Rattle.io.proofs.read_full.Reads as read-full-reads
-use Rattle.table.proofs.read_table.Reads as read-table-reads
 
 large-buffer-requires : tie.Need-large-buffer-requires
 large-buffer-requires c κs = search needs

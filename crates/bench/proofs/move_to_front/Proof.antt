@@ -6,8 +6,6 @@ use lib.ListN.{length}
 use borrow.Author.Needs.{needs}
 use Rattle.bench.proofs.move_to_front.Statement.{statement}
 use Rattle.bench.proofs.move_to_front.Tie as tie
-use Rattle.bench.proofs.move_to_front.Reads as reads
-use Rattle.bench.proofs.move_to_front.Lts as lts
 
 abbrev Inv-loop : tie.InvT-loop
 Inv-loop buf₀ from count i₀ buf i = length buf ≡ length buf₀

@@ -6,14 +6,6 @@ use lib.ListN.{length}
 use borrow.Author.Needs.{needs}
 use Rattle.bench.proofs.write_events.Statement.{statement}
 use Rattle.bench.proofs.write_events.Tie as tie
-use Rattle.bench.proofs.write_events.Reads as reads
-use Rattle.bench.proofs.write_events.Lts as lts
-use Rattle.bench.proofs.least.Reads as least-reads
-use Rattle.bench.proofs.look_ahead.Reads as look-ahead-reads
-use Rattle.bench.proofs.write_last.Reads as write-last-reads
-use Rattle.bench.proofs.write_line.Reads as write-line-reads
-use Rattle.io.proofs.large_buffer.Reads as large-buffer-reads
-use Rattle.record.proofs.lay_events.Reads as lay-events-reads
 
 abbrev Inv-loop : tie.InvT-loop
 Inv-loop input₀ from filled state active₀ unlocked₀ readers₀ writers₀ request₀ lines₀ events₀ at₀ end₀ input active unlocked readers writers request lines events at end =

@@ -16,11 +16,6 @@ use Rattle.by_value.specs.Mixing.{mixed, mixed-next, mixed-none}
 use borrow.Author.Needs.{needs}
 use Rattle.by_value.proofs.by_value_answers.Statement.{statement}
 use Rattle.by_value.proofs.by_value_answers.Tie as tie
-use Rattle.by_value.proofs.by_value_answers.Reads as reads
-use Rattle.by_value.proofs.by_value_answers.Lts as lts
-use Rattle.manager.proofs.event.Reads as event-reads
-use Rattle.table.proofs.read_table.Reads as read-table-reads
-use Rattle.vongselik.proofs.pack.Reads as pack-reads
 
 abbrev Inv-loop : tie.InvT-loop
 Inv-loop table events state₀ answers₀ at₀ state answers at = (at ≤ length events) × (mixed state₀ 0 events ≡ mixed state answers (drop at events))

@@ -7,7 +7,6 @@ use Rattle.state.specs.declared.State.{State}
 use Rattle.state.specs.State.{stateOf}
 use Rattle.events.specs.declared.Answer.the-variants.{Refused}
 use Rattle.refusals.specs.Accepting.{accepting}
-use Rattle.refusals.specs.Refusals as R
 use Rattle.events.specs.Events.{outcome}
 use Rattle.manager.specs.Step.{step-refused, step-accepted}
 use borrow.Author.Needs.{needs}

@@ -4,7 +4,7 @@ use mathlib.Core.Path.{ap}
 use native.Mathlib.Nat.{le-refl}
 use Rattle.events.specs.declared.Outcome.{Outcome}
 use Rattle.lines.specs.Lines.{eventLine}
-use Rattle.lines.specs.LineLaws.{laid-is}
+use Rattle.decimals.specs.Laid.{laid-is}
 use borrow.Author.Needs.{needs}
 use Rattle.record.proofs.lay_answered.Statement.{statement}
 use Rattle.record.proofs.lay_answered.Tie as tie

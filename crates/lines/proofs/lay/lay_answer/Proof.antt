@@ -7,7 +7,7 @@ use native.Mathlib.Omega.{arith}
 use Rattle.events.specs.declared.Answer.{Answer}
 use Rattle.events.specs.Answers.{paper}
 use Rattle.lines.specs.Lines.{behind, answerFields}
-use Rattle.lines.specs.LineLaws.{laid-then, laid-is}
+use Rattle.decimals.specs.Laid.{laid-then, laid-is}
 use borrow.Author.Needs.{needs}
 use Rattle.lines.proofs.lay.lay_answer.Statement.{statement}
 use Rattle.lines.proofs.lay.lay_answer.Tie as tie

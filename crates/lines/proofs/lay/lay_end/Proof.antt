@@ -1,7 +1,7 @@
 -- `lines::lay::lay_end` meets its contract: the word, the count and the line feed stand one behind the other.
 -- Assumes nothing.
 use Rattle.lines.specs.Lines.{endLine}
-use Rattle.lines.specs.LineLaws.{laid-then}
+use Rattle.decimals.specs.Laid.{laid-then}
 use borrow.Author.Needs.{needs}
 use Rattle.lines.proofs.lay.lay_end.Statement.{statement}
 use Rattle.lines.proofs.lay.lay_end.Tie as tie

@@ -5,7 +5,7 @@ use mathlib.Core.List.{[], _∷_}
 use Prim.Native.Nat.{ℕ}
 use native.Mathlib.Nat.{le-refl}
 use Rattle.lines.specs.Lines.{space, eventLine}
-use Rattle.lines.specs.LineLaws.{laid-then, laid-is}
+use Rattle.decimals.specs.Laid.{laid-then, laid-is}
 use borrow.Author.Needs.{needs}
 use Rattle.lines.proofs.lay.lay_event.Statement.{statement}
 use Rattle.lines.proofs.lay.lay_event.Tie as tie

@@ -2,7 +2,8 @@
 -- Assumes nothing.
 use mathlib.Core.Path.{refl}
 use native.Mathlib.Omega.{arith}
-use Rattle.lines.specs.LineLaws.{byte-length, laid-then, laid-is}
+use Rattle.decimals.specs.Decimal.{byte-length}
+use Rattle.decimals.specs.Laid.{laid-then, laid-is}
 use borrow.Author.Needs.{needs}
 use Rattle.lines.proofs.lay.lay_field.Statement.{statement}
 use Rattle.lines.proofs.lay.lay_field.Tie as tie

@@ -1,7 +1,7 @@
 -- `lines::lay::lay_header` meets its contract: mark, version and counts stand one behind the other.
 -- Assumes nothing.
 use Rattle.lines.specs.Lines.{headerLine}
-use Rattle.lines.specs.LineLaws.{laid-then}
+use Rattle.decimals.specs.Laid.{laid-then}
 use borrow.Author.Needs.{needs}
 use Rattle.lines.proofs.lay.lay_header.Statement.{statement}
 use Rattle.lines.proofs.lay.lay_header.Tie as tie

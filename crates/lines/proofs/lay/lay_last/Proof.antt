@@ -1,25 +1,19 @@
-use Rattle.lines.specs.LineLaws.{laid-then}
+-- `lines::lay::lay_last` meets its contract: a field, and the line feed behind it.
+-- Assumes nothing.
+use Rattle.decimals.specs.Laid.{laid-then}
 use borrow.Author.Needs.{needs}
 use Rattle.lines.proofs.lay.lay_last.Statement.{statement}
 use Rattle.lines.proofs.lay.lay_last.Tie as tie
-use Rattle.lines.proofs.lay.lay_last.Reads as reads
-use Rattle.lines.proofs.lay.lay_last.Lts as lts
-use Rattle.lines.proofs.lay.lay_byte.Reads as lay-byte-reads
-use Rattle.lines.proofs.lay.lay_field.Reads as lay-field-reads
 
--- src/lay.rt:109:9
 lay-field-requires : tie.Need-lay-field-requires
 lay-field-requires c κs = search needs
 
--- src/lay.rt:110:5
 lay-byte-requires : tie.Need-lay-byte-requires
 lay-byte-requires c κs = search needs
 
--- src/lay.rt:105:1
 same-length : tie.Need-same-length
 same-length c = search needs
 
--- src/lay.rt:105:1
 returns : tie.Need-returns
 returns c = laid-then (c .before .before .before .before .before .before .lay-field .ensures) (c .before .before .lay-byte .ensures)
 

@@ -1,6 +1,6 @@
 -- `lines::lay::lay_letter` meets its contract: two bytes, one behind the other.
 -- Assumes nothing.
-use Rattle.lines.specs.LineLaws.{laid-then}
+use Rattle.decimals.specs.Laid.{laid-then}
 use borrow.Author.Needs.{needs}
 use Rattle.lines.proofs.lay.lay_letter.Statement.{statement}
 use Rattle.lines.proofs.lay.lay_letter.Tie as tie

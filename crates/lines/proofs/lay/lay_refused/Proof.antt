@@ -1,7 +1,7 @@
 -- `lines::lay::lay_refused` meets its contract: the letter and the number stand one behind the other.
 -- Assumes nothing.
 use Rattle.lines.specs.Lines.{refusedLine}
-use Rattle.lines.specs.LineLaws.{laid-then}
+use Rattle.decimals.specs.Laid.{laid-then}
 use borrow.Author.Needs.{needs}
 use Rattle.lines.proofs.lay.lay_refused.Statement.{statement}
 use Rattle.lines.proofs.lay.lay_refused.Tie as tie

@@ -1,7 +1,7 @@
 -- `lines::lay::lay_short` meets its contract: its six bytes stand one behind the other.
 -- Assumes nothing.
 use Rattle.lines.specs.Lines.{shortLine}
-use Rattle.lines.specs.LineLaws.{laid-then}
+use Rattle.decimals.specs.Laid.{laid-then}
 use borrow.Author.Needs.{needs}
 use Rattle.lines.proofs.lay.lay_short.Statement.{statement}
 use Rattle.lines.proofs.lay.lay_short.Tie as tie

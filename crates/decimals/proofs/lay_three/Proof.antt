@@ -1,9 +1,9 @@
--- `lines::lay::lay_three` meets its contract: its three bytes stand one behind the other.
+-- `decimals::lay_three` meets its contract: its three bytes stand one behind the other.
 -- Assumes nothing.
-use Rattle.lines.specs.LineLaws.{laid-then}
+use Rattle.decimals.specs.Laid.{laid-then}
 use borrow.Author.Needs.{needs}
-use Rattle.lines.proofs.lay.lay_three.Statement.{statement}
-use Rattle.lines.proofs.lay.lay_three.Tie as tie
+use Rattle.decimals.proofs.lay_three.Statement.{statement}
+use Rattle.decimals.proofs.lay_three.Tie as tie
 
 lay-byte-requires : tie.Need-lay-byte-requires
 lay-byte-requires c κs = search needs

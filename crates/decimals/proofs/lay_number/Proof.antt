@@ -1,11 +1,12 @@
--- `lines::lay::lay_number` meets its contract: a number of 64 bits has at most 20 digits.
+-- `decimals::lay_number` meets its contract: a number of 64 bits has at most 20 digits.
 -- Assumes nothing.
 use mathlib.Core.Path.{refl}
 use native.Mathlib.Omega.{arith}
-use Rattle.lines.specs.LineLaws.{word-length, laid-is}
+use Rattle.decimals.specs.Decimal.{word-length}
+use Rattle.decimals.specs.Laid.{laid-is}
 use borrow.Author.Needs.{needs}
-use Rattle.lines.proofs.lay.lay_number.Statement.{statement}
-use Rattle.lines.proofs.lay.lay_number.Tie as tie
+use Rattle.decimals.proofs.lay_number.Statement.{statement}
+use Rattle.decimals.proofs.lay_number.Tie as tie
 
 lay-digits-requires : tie.Need-lay-digits-requires
 lay-digits-requires c κs = omega (arith, word-length (c .before .before .args .number) (omega arith))

@@ -1,19 +1,20 @@
--- `lines::lay::lay_digits` meets its contract: a number below 10 is one digit; else its last digit stands behind those of its tenth part.
+-- `decimals::lay_digits` meets its contract: a number below 10 is one digit; else its last digit stands behind those of its tenth part.
 -- The measure is the number. Assumes nothing.
 use mathlib.Core.Path.{sym, ap}
 use native.Mathlib.Omega.{arith}
 use lib.ListN.{length}
 use borrow.Author.Needs.{needs}
-use Rattle.lines.specs.LineLaws.{decimal-one, decimal-more, decimal-more-length, laid-then, laid-is}
+use Rattle.decimals.specs.Decimal.{decimal-one, decimal-more, decimal-more-length}
+use Rattle.decimals.specs.Laid.{laid-then, laid-is}
 use Prim.Native.Nat.{ℕ, _<_}
 use borrow.Fn.Kinds.{In}
 use borrow.Fn.PlainCycle.{Measures, is, falls, and}
-use Rattle.lines.proofs.lay.lay_digits.Reads as lay-digits
-use Rattle.lines.proofs.lay.lay_digits.Kinds as lay-digits-kinds
-use Rattle.lines.proofs.lay.+lay_digits.Lts-lay_digits as lay-digits-lts
-use Rattle.lines.proofs.lay.lay_byte.Reads as lay-byte-reads
-use Rattle.lines.proofs.lay.+lay_digits.{statement}
-use Rattle.lines.proofs.lay.+lay_digits.Tie.{close}
+use Rattle.decimals.proofs.lay_digits.Reads as lay-digits
+use Rattle.decimals.proofs.lay_digits.Kinds as lay-digits-kinds
+use Rattle.decimals.proofs.+lay_digits.Lts-lay_digits as lay-digits-lts
+use Rattle.decimals.proofs.lay_byte.Reads as lay-byte-reads
+use Rattle.decimals.proofs.+lay_digits.{statement}
+use Rattle.decimals.proofs.+lay_digits.Tie.{close}
 
 abbrev μ-lay-digits : Measures 1 lay-digits-kinds.ps ℕ
 μ-lay-digits κs a = a .1 .1 .0
@@ -26,7 +27,6 @@ abbrev lay-digits-below : ℕ → In 1 lay-digits-kinds.ps
 lay-digits-below t =
     and 1 lay-digits-kinds.ps (falls 1 lay-digits-kinds.ps _<_ μ-lay-digits t) lay-digits.Pre
 
--- src/lay.rt:34:39
 lay-digits-cast-lay-byte : (t : ℕ) → lay-digits-lts.Need-cast-lay-byte (
   lay-byte-reads.Asked,
   lay-byte-reads.Learnt,
@@ -35,7 +35,6 @@ lay-digits-cast-lay-byte : (t : ℕ) → lay-digits-lts.Need-cast-lay-byte (
 ) (lay-digits-at t) lay-digits.Post
 lay-digits-cast-lay-byte t c = search needs
 
--- src/lay.rt:34:34
 lay-digits-add-lay-byte : (t : ℕ) → lay-digits-lts.Need-add-lay-byte (
   lay-byte-reads.Asked,
   lay-byte-reads.Learnt,
@@ -44,7 +43,6 @@ lay-digits-add-lay-byte : (t : ℕ) → lay-digits-lts.Need-add-lay-byte (
 ) (lay-digits-at t) lay-digits.Post
 lay-digits-add-lay-byte t c = search needs
 
--- src/lay.rt:34:9
 lay-digits-lay-byte-requires : (t : ℕ) → lay-digits-lts.Need-lay-byte-requires (
   lay-byte-reads.Asked,
   lay-byte-reads.Learnt,
@@ -55,7 +53,6 @@ lay-digits-lay-byte-requires t c κs =
     let n = c .before .before .before .args .number in
     omega (arith, ap length (decimal-one n (omega arith)))
 
--- src/lay.rt:34:9
 lay-digits-same-length : (t : ℕ) → lay-digits-lts.Need-same-length (
   lay-byte-reads.Asked,
   lay-byte-reads.Learnt,
@@ -64,7 +61,6 @@ lay-digits-same-length : (t : ℕ) → lay-digits-lts.Need-same-length (
 ) (lay-digits-at t) lay-digits.Post
 lay-digits-same-length t c = search needs
 
--- src/lay.rt:34:9
 lay-digits-returns : (t : ℕ) → lay-digits-lts.Need-returns (
   lay-byte-reads.Asked,
   lay-byte-reads.Learnt,
@@ -76,7 +72,6 @@ lay-digits-returns t c =
     let one = decimal-one n (omega arith) in
     laid-is (c .before .before .lay-byte .ensures) (sym one) (omega (arith, ap length one))
 
--- src/lay.rt:36:9
 lay-digits-lay-digits-requires : (t : ℕ) → lay-digits-lts.Need-lay-digits-requires (
   lay-byte-reads.Asked,
   lay-byte-reads.Learnt,
@@ -87,7 +82,6 @@ lay-digits-lay-digits-requires t c κs =
     let n = c .before .before .before .args .number in
     (omega arith, omega (arith, decimal-more-length n (omega arith)))
 
--- src/lay.rt:37:29
 lay-digits-cast-lay-byte-2 : (t : ℕ) → lay-digits-lts.Need-cast-lay-byte-2 (
   lay-byte-reads.Asked,
   lay-byte-reads.Learnt,
@@ -96,7 +90,6 @@ lay-digits-cast-lay-byte-2 : (t : ℕ) → lay-digits-lts.Need-cast-lay-byte-2 (
 ) (lay-digits-at t) lay-digits.Post
 lay-digits-cast-lay-byte-2 t c = search needs
 
--- src/lay.rt:37:24
 lay-digits-add-lay-byte-2 : (t : ℕ) → lay-digits-lts.Need-add-lay-byte-2 (
   lay-byte-reads.Asked,
   lay-byte-reads.Learnt,
@@ -105,7 +98,6 @@ lay-digits-add-lay-byte-2 : (t : ℕ) → lay-digits-lts.Need-add-lay-byte-2 (
 ) (lay-digits-at t) lay-digits.Post
 lay-digits-add-lay-byte-2 t c = search needs
 
--- src/lay.rt:37:5
 lay-digits-lay-byte-requires-2 : (t : ℕ) → lay-digits-lts.Need-lay-byte-requires-2 (
   lay-byte-reads.Asked,
   lay-byte-reads.Learnt,
@@ -116,7 +108,6 @@ lay-digits-lay-byte-requires-2 t c κs =
     let n = c .before .before .before .before .before .before .before .args .number in
     omega (arith, decimal-more-length n (omega arith))
 
--- src/lay.rt:29:1
 lay-digits-same-length-2 : (t : ℕ) → lay-digits-lts.Need-same-length-2 (
   lay-byte-reads.Asked,
   lay-byte-reads.Learnt,
@@ -125,7 +116,6 @@ lay-digits-same-length-2 : (t : ℕ) → lay-digits-lts.Need-same-length-2 (
 ) (lay-digits-at t) lay-digits.Post
 lay-digits-same-length-2 t c = search needs
 
--- src/lay.rt:29:1
 lay-digits-returns-2 : (t : ℕ) → lay-digits-lts.Need-returns-2 (
   lay-byte-reads.Asked,
   lay-byte-reads.Learnt,

@@ -1,0 +1,3 @@
+-- Decimal numbers as bytes, and texts laid into a buffer.
+pub mod Decimal
+pub mod Laid
