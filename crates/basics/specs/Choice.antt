@@ -97,3 +97,13 @@ or-else-zero (suc a) b e = absurd (omega arith)
 pub or-else-first : (a b : ℕ) → (a ≡ 0 → ⊥) → (a orElse b) ≡ a
 or-else-first zero b d = absurd (d refl)
 or-else-first (suc a) b d = refl
+
+-- ---- a number that is none of the refusals is not what decides
+
+pub if-not : (v n : ℕ) (t : Bool) (rest : ℕ) → (n ≡ v → ⊥) → (rest ≡ v → ⊥) → (n if t else rest) ≡ v → ⊥
+if-not v n true rest d f e = d e
+if-not v n false rest d f e = f e
+
+pub or-else-not : (v a b : ℕ) → (a ≡ v → ⊥) → (b ≡ v → ⊥) → (a orElse b) ≡ v → ⊥
+or-else-not v zero b d f e = f e
+or-else-not v (suc a) b d f e = d e

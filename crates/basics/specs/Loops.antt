@@ -12,7 +12,7 @@ use native.Mathlib.Omega.{arith}
 use lib.Dec.{leb}
 use lib.ListN.{length, length-append}
 use borrow.Author.Tests.{leb-true, leb-false}
-use Rattle.basics.specs.Choice.{_orElse_, clash, and-true, and-left, and-right, same-test, or-else-zero}
+use Rattle.basics.specs.Choice.{_orElse_, clash, and-true, and-left, and-right, same-test, or-else-zero, or-else-not}
 
 -- p holds at each of 1, .., n
 unfoldable pub every : ℕ → (ℕ → Bool) → Bool
@@ -164,6 +164,18 @@ unfolding firstNonzero
 all-zero-first zero f h = refl
 all-zero-first (suc n) f h =
     ap₂ _orElse_ (all-zero-first n f (λ i a b. h i a (omega arith))) (h (suc n) (omega arith) (le-refl (suc n)))
+
+pub first-nonzero-same : (n : ℕ) (f g : ℕ → ℕ) → ((i : ℕ) → 1 ≤ i → i ≤ n → f i ≡ g i) → firstNonzero n f ≡ firstNonzero n g
+unfolding firstNonzero
+first-nonzero-same zero f g e = refl
+first-nonzero-same (suc n) f g e =
+    ap₂ _orElse_ (first-nonzero-same n f g (λ i a b. e i a (omega arith))) (e (suc n) (omega arith) (omega arith))
+
+-- a number other than 0 that none of them is
+pub first-nonzero-not : (v n : ℕ) (f : ℕ → ℕ) → (0 ≡ v → ⊥) → ((i : ℕ) → f i ≡ v → ⊥) → firstNonzero n f ≡ v → ⊥
+unfolding firstNonzero
+first-nonzero-not v zero f z d e = z e
+first-nonzero-not v (suc n) f z d e = or-else-not v (firstNonzero n f) (f (suc n)) (first-nonzero-not v n f z d) (d (suc n)) e
 
 -- it is the first that is not 0, where those before are
 pub first-nonzero-at : (i n : ℕ) (f : ℕ → ℕ) → firstNonzero i f ≡ 0 → (f (suc i) ≡ 0 → ⊥) → i < n → firstNonzero n f ≡ f (suc i)

@@ -1,12 +1,12 @@
 -- Texts laid into a buffer, one behind the other.
 -- Assumes nothing.
 use Prim.Native.Nat.{ℕ, suc, _+_, _≤_}
-use mathlib.Core.Path.{_≡_, ap, ap₂, _∙_}
+use mathlib.Core.Path.{_≡_, sym, ap, ap₂, _∙_}
 use mathlib.Core.List.{List, [], _∷_, _++_}
-use native.Mathlib.Nat.{add-zero}
+use native.Mathlib.Nat.{add-zero, zero-add}
 use native.Mathlib.Omega.{arith}
-use lib.ListN.{length, set, length-append}
-use lib.Seq.{sets}
+use lib.ListN.{length, set, take, drop, length-append}
+use lib.Seq.{sets, sets-eq, length-sets, take-at}
 
 -- a text laid from index `start` on, up to `end`, in no more than `room` bytes
 pub record Laid (before after : List ℕ) (start end room : ℕ) (text : List ℕ) : Type 0 where
@@ -36,3 +36,13 @@ laid-is {a} {b} {i} {j} {m} {n} {xs} {ys} p e h =
       stops = p .stops ∙ ap (λ (l : List ℕ). i + length l) e;
       within = omega (arith, p .within);
     }
+
+-- the buffer keeps its length
+pub laid-length : {a b : List ℕ} {i j m : ℕ} {xs : List ℕ} → Laid a b i j m xs → length b ≡ length a
+laid-length {a} {b} {i} {j} {m} {xs} p = ap length (p .stored) ∙ length-sets a i xs
+
+-- a text laid at the front of a buffer stands there
+pub laid-front : {a b : List ℕ} {j m : ℕ} {xs : List ℕ} → Laid a b 0 j m xs → length xs ≤ length a → take j b ≡ xs
+laid-front {a} {b} {j} {m} {xs} p h =
+    let stops : j ≡ length xs = p .stops ∙ zero-add (length xs) in
+    ap (take j) (p .stored ∙ sets-eq xs a 0 (omega arith)) ∙ take-at xs (drop (0 + length xs) a) j (sym stops)

@@ -4,11 +4,11 @@ ghost use Rattle.lines.specs.Lines.{headerLine, eventLine, endLine, shor
 mod lay;
 
 use events::Answer;
-use lay::lay_end;
+pub use lay::lay_end;
 pub use lay::lay_event;
-use lay::lay_header;
-use lay::lay_refused;
-use lay::lay_short;
+pub use lay::lay_header;
+pub use lay::lay_refused;
+pub use lay::lay_short;
 
 // Room for any line: the longest has 45 bytes.
 pub type LineBuffer = [u8; 64];

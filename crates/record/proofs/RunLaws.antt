@@ -18,7 +18,7 @@ use Rattle.record.specs.RecordLaws.{event-lines-more, state-after-more, 
 -- the events up to index `place` are answered: the lines of them all are those laid so far and then those of what is left
 pub record Run (bytes : List ℕ) (s₀ s : State) (n₀ n : ℕ) (buf₀ buf : List ℕ) (place end : ℕ) : Type 0 where
   pub inside : place ≤ length bytes
-  pub numbers : n ≤ n₀ + place
+  pub numbers : 3 * n ≤ 3 * n₀ + place
   pub text : List ℕ
   pub laid : Laid buf₀ buf 0 end (15 * place) text
   pub lines : eventLines s₀ n₀ bytes ≡ text ++ eventLines s n (drop place bytes)

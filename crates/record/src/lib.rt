@@ -1,6 +1,6 @@
 // Events taken from bytes and answered one after the other, their lines laid one behind the other.
 ghost use mathlib.Core.Path.{_≡_};
-ghost use Prim.Native.Nat.{_+_, _*_, _^_, _≤_, _<_};
+ghost use Prim.Native.Nat.{_+_, _*_, _/_, _^_, _≤_, _<_};
 ghost use lib.ListN.{length};
 ghost use Rattle.state.specs.State.{stateOf};
 ghost use Rattle.manager.specs.Step.{step};
@@ -76,7 +76,7 @@ pub fn lay_events<'a>(
     events: u64,
     bytes: &[u8],
 ) -> usize
-    requires { ⌜ (15 * length (now bytes) ≤ length (now buf)) × (events + length (now bytes) < 2 ^ 64) ⌝ }
+    requires { ⌜ (15 * length (now bytes) ≤ length (now buf)) × (events + length (now bytes) / 3 < 2 ^ 64) ⌝ }
     ensures { λ r. ⌜ (stateOf processors jobs objects (now («processor_of» .entry)) (now («may_read» .entry)) (now («may_write» .entry)) (now (active .exit)) (now (unlocked .exit)) (now (readers .exit)) (now (writers .exit)) (now (request .exit))
         ≡ stateAfter (stateOf processors jobs objects (now («processor_of» .entry)) (now («may_read» .entry)) (now («may_write» .entry)) (now (active .entry)) (now (unlocked .entry)) (now (readers .entry)) (now (writers .entry)) (now (request .entry))) (now (bytes .entry)))
         × Laid (now (buf .entry)) (now (buf .exit)) 0 r (15 * length (now (bytes .entry)))

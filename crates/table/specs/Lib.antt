@@ -4,4 +4,5 @@ pub mod JobEntries
 pub mod JobPart
 pub mod Declarations
 pub mod Fresh
+pub mod Decided
 pub mod Example

@@ -69,6 +69,11 @@ module _ (b : List ℕ) (ok : headerRefusal b ≡ 0) where
   pub header-long : 8 ≤ length b
   header-long = ltb-false (length b) 8 (header .0)
 
+  pub header-jobs : jobsIn b ≤ limit
+  header-jobs =
+      let counts : countsWithin (processorsIn b) (jobsIn b) (objectsIn b) ≡ true = header .3 in
+      between-true 1 limit (jobsIn b) (three (between 1 mostProcessors (processorsIn b)) (between 1 limit (jobsIn b)) (between 1 mostObjects (objectsIn b)) counts .1) .1
+
 module _ (b : List ℕ) (ok : lengthRefusal b ≡ 0) where
   lengths : (ltb (length b) (entriesStart b) ≡ false) × (ltb mostEntries (entryCount b) ≡ false) × (ltb (length b) (tableLength b) ≡ false)
   unfolding lengthRefusal

@@ -1,4 +1,5 @@
--- Table bytes: where their parts stand, their refusals, and what is known of accepted ones.
+-- Table bytes: where their parts stand, their refusals, what is known of accepted ones, and that bytes behind a table change nothing.
 pub mod Bytes
 pub mod Refusals
 pub mod Accepted
+pub mod Decided

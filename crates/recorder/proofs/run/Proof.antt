@@ -1,0 +1,181 @@
+-- `recorder::run` meets its contract. The loop's invariant: the reader and the bytes held are as the parts that came leave them, the bytes
+-- are fewer than a table has, so that there is room for more, and the events and the bytes are no more than have come.
+-- It ends because what may still come falls. Assumes nothing.
+use denote.Ref.{now}
+use mathlib.Core.Path.{_≡_, refl, sym, ap, subst, _∙_}
+use mathlib.Core.List.{List}
+use Prim.Native.Nat.{ℕ, _+_, _-_, _≤_, _<_}
+use native.Mathlib.Omega.{arith}
+use lib.ListN.{length, take}
+use lib.Seq.{length-take-le}
+use Rattle.table_bytes.specs.Decided.{longestTable}
+use Rattle.decimals.specs.Laid.{laid-length}
+use Rattle.stream.specs.declared.Reader.{Reader}
+use Rattle.recorder.specs.declared.Part.{Part}
+use Rattle.recorder.specs.Recording.{Fits, Driven}
+use Rattle.recorder.specs.RecordingLaws.{driven-start, driven-fed, fed-short, fed-count}
+use borrow.Author.Needs.{needs}
+use Rattle.recorder.proofs.run.Statement.{statement}
+use Rattle.recorder.proofs.run.Tie as tie
+
+abbrev Inv-loop : tie.InvT-loop
+Inv-loop from to most input₀ lines₀ reader₀ held₀ come₀ input lines reader held come =
+    (held < longestTable) × (reader .events + held ≤ come) × (length input ≡ length input₀) × (length lines ≡ length lines₀) × Driven reader (take held input)
+
+abbrev μ-loop : tie.MeasureT-loop
+μ-loop from to most input₀ lines₀ reader₀ held₀ come₀ input lines reader held come = 18446744073709486080 - come
+
+unread-requires : tie.Need-unread-requires Inv-loop μ-loop
+unread-requires c κs = search needs
+
+loop-holds : tie.Need-loop-holds Inv-loop μ-loop
+loop-holds c =
+    let e = ap (λ (r : Reader). r .events) (c .unread .ensures) in
+    (omega arith, omega (arith, e), refl, refl, driven-start _ (c .unread .ensures))
+
+read-part-requires : tie.Need-read-part-requires Inv-loop μ-loop
+read-part-requires c κs = search needs
+
+enum-known-part : tie.Need-enum-known-part Inv-loop μ-loop
+enum-known-part c = search needs
+
+end-record-requires : tie.Need-end-record-requires Inv-loop μ-loop
+end-record-requires c κs = (
+  subst (λ (l : List ℕ). Driven (c .before .before .before .before .before .before .before .loop .reader) l) (sym (c .before .before .before .before .read-part .ensures .kept)) (c .before .before .before .before .before .before .before .loop .inv .4),
+  omega (arith, c .before .before .before .before .before .before .before .loop .inv, c .before .before .before .before .read-part .ensures .size, c .before .before .before .before .before .before .before .before .before .before .before .pre),
+)
+
+same-length : tie.Need-same-length Inv-loop μ-loop
+same-length c = search needs
+
+same-length-2 : tie.Need-same-length-2 Inv-loop μ-loop
+same-length-2 c = search needs
+
+returns : tie.Need-returns Inv-loop μ-loop
+returns c = subst (λ (l : List ℕ). Driven (c .before .before .before .before .before .before .before .before .loop .reader) l) (sym (c .before .before .before .before .before .read-part .ensures .kept)) (c .before .before .before .before .before .before .before .before .loop .inv .4)
+
+add-come : tie.Need-add-come Inv-loop μ-loop
+add-come c =
+    let came = c .before .before .before .before .before .read-part .ensures in
+    let fits = subst (λ (p : Part). Fits p (came .room)) (c .before .part .given .1) (came .fits) in
+    omega (arith, fits, came .inside, c .before .before .before .before .before .before .before .before .loop .inv, c .before .before .before .before .before .before .before .before .before .before .before .before .pre)
+
+add-feed : tie.Need-add-feed Inv-loop μ-loop
+add-feed c =
+    let came = c .before .before .before .before .before .before .read-part .ensures in
+    let fits = subst (λ (p : Part). Fits p (came .room)) (c .before .before .part .given .1) (came .fits) in
+    omega (arith, fits, came .inside, c .before .before .before .before .before .before .before .before .before .loop .inv, c .before .before .before .before .before .before .before .before .before .before .before .before .before .pre)
+
+feed-requires : tie.Need-feed-requires Inv-loop μ-loop
+feed-requires c κs =
+    let came = c .before .before .before .before .before .before .before .read-part .ensures in
+    let fits = subst (λ (p : Part). Fits p (came .room)) (c .before .before .before .part .given .1) (came .fits) in (
+      omega (arith, fits, came .inside, came .size),
+      omega (arith, fits, came .inside, c .before .before .before .before .before .before .before .before .before .before .loop .inv, c .before .before .before .before .before .before .before .before .before .before .before .before .before .before .pre),
+      omega (arith, fits, came .inside, c .before .before .before .before .before .before .before .before .before .before .loop .inv, c .before .before .before .before .before .before .before .before .before .before .before .before .before .before .pre),
+    )
+
+write-lines-requires : tie.Need-write-lines-requires Inv-loop μ-loop
+write-lines-requires c κs =
+    let came = c .before .before .before .before .before .before .before .before .before .before .before .before .before .before .read-part .ensures in
+    let fits = subst (λ (p : Part). Fits p (came .room)) (c .before .before .before .before .before .before .before .before .before .before .part .given .1) (came .fits) in
+    let filled : ℕ = c .before .before .before .before .before .before .before .before .before .before .before .before .before .before .before .before .before .loop .held + c .before .before .before .before .before .before .before .before .before .before .part .given .0 .0 in
+    let inside : filled ≤ length (c .before .before .before .before .before .before .before .before .before .before .before .before .before .before .read-part .last .1 .1 .0) = omega (arith, fits, came .inside, came .size) in
+    let size = length-take-le filled (c .before .before .before .before .before .before .before .before .before .before .before .before .before .before .read-part .last .1 .1 .0) inside in
+    let same = laid-length (c .before .before .before .before .before .before .feed .ensures .laid) in
+    omega (arith, c .before .before .before .before .before .before .feed .ensures .laid .within, size, same, fits, came .inside, c .before .before .before .before .before .before .before .before .before .before .before .before .before .before .before .before .before .loop .inv, c .before .before .before .before .before .before .before .before .before .before .before .before .before .before .before .before .before .before .before .before .before .pre)
+
+same-length-3 : tie.Need-same-length-3 Inv-loop μ-loop
+same-length-3 c = search needs
+
+same-length-4 : tie.Need-same-length-4 Inv-loop μ-loop
+same-length-4 c = search needs
+
+returns-2 : tie.Need-returns-2 Inv-loop μ-loop
+returns-2 c =
+    let came = c .before .before .before .before .before .before .before .before .before .before .before .before .before .before .before .before .read-part .ensures in
+    let fits = subst (λ (p : Part). Fits p (came .room)) (c .before .before .before .before .before .before .before .before .before .before .before .before .part .given .1) (came .fits) in
+    let filled : ℕ = c .before .before .before .before .before .before .before .before .before .before .before .before .before .before .before .before .before .before .before .loop .held + c .before .before .before .before .before .before .before .before .before .before .before .before .part .given .0 .0 in
+    let inside : filled ≤ length (c .before .before .before .before .before .before .before .before .before .before .before .before .before .before .before .before .read-part .last .1 .1 .0) = omega (arith, fits, came .inside, came .size) in
+    driven-fed (c .before .before .before .before .before .before .before .before .before .before .before .before .before .before .before .before .before .before .before .loop .reader) filled (c .before .before .before .before .before .before .before .before .before .before .before .before .before .before .before .before .read-part .last .1 .1 .0) _ _ _ (c .before .before .before .before .before .before .before .before .feed .result) inside (c .before .before .before .before .before .before .before .before .feed .ensures) (c .before .before .before .before .before .before .before .before .before .before .before .before .before .before .before .before .before .before .before .loop .held) (c .before .before .before .before .before .before .before .before .before .before .before .before .before .before .before .before .before .before .before .loop .input) (c .before .before .before .before .before .before .before .before .before .before .before .before .before .before .before .before .before .before .before .loop .inv .4) (came .kept) (omega arith)
+
+same-length-5 : tie.Need-same-length-5 Inv-loop μ-loop
+same-length-5 c =
+    let same = laid-length (c .before .before .before .before .before .before .before .before .before .before .feed .ensures .held) in
+    omega (arith, same, c .before .before .before .before .before .before .before .before .before .before .before .before .before .before .before .before .before .before .read-part .ensures .size, c .before .before .before .before .before .before .before .before .before .before .before .before .before .before .before .before .before .before .before .before .before .loop .inv)
+
+same-length-6 : tie.Need-same-length-6 Inv-loop μ-loop
+same-length-6 c =
+    let same = laid-length (c .before .before .before .before .before .before .before .before .before .before .feed .ensures .laid) in
+    omega (arith, same, c .before .before .before .before .before .before .before .before .before .before .before .before .before .before .before .before .before .before .before .before .before .loop .inv)
+
+returns-3 : tie.Need-returns-3 Inv-loop μ-loop
+returns-3 c =
+    let came = c .before .before .before .before .before .before .before .before .before .before .before .before .before .before .before .before .before .before .read-part .ensures in
+    let fits = subst (λ (p : Part). Fits p (came .room)) (c .before .before .before .before .before .before .before .before .before .before .before .before .before .before .part .given .1) (came .fits) in
+    let filled : ℕ = c .before .before .before .before .before .before .before .before .before .before .before .before .before .before .before .before .before .before .before .before .before .loop .held + c .before .before .before .before .before .before .before .before .before .before .before .before .before .before .part .given .0 .0 in
+    let inside : filled ≤ length (c .before .before .before .before .before .before .before .before .before .before .before .before .before .before .before .before .before .before .read-part .last .1 .1 .0) = omega (arith, fits, came .inside, came .size) in
+    driven-fed (c .before .before .before .before .before .before .before .before .before .before .before .before .before .before .before .before .before .before .before .before .before .loop .reader) filled (c .before .before .before .before .before .before .before .before .before .before .before .before .before .before .before .before .before .before .read-part .last .1 .1 .0) _ _ _ (c .before .before .before .before .before .before .before .before .before .before .feed .result) inside (c .before .before .before .before .before .before .before .before .before .before .feed .ensures) (c .before .before .before .before .before .before .before .before .before .before .before .before .before .before .before .before .before .before .before .before .before .loop .held) (c .before .before .before .before .before .before .before .before .before .before .before .before .before .before .before .before .before .before .before .before .before .loop .input) (c .before .before .before .before .before .before .before .before .before .before .before .before .before .before .before .before .before .before .before .before .before .loop .inv .4) (came .kept) (omega arith)
+
+loop-less : tie.Need-loop-less Inv-loop μ-loop
+loop-less c =
+    let came = c .before .before .before .before .before .before .before .before .before .before .before .before .before .before .before .before .before .before .read-part .ensures in
+    let fits = subst (λ (p : Part). Fits p (came .room)) (c .before .before .before .before .before .before .before .before .before .before .before .before .before .before .part .given .1) (came .fits) in
+    omega (arith, fits)
+
+loop-again : tie.Need-loop-again Inv-loop μ-loop
+loop-again c =
+    let came = c .before .before .before .before .before .before .before .before .before .before .before .before .before .before .before .before .before .before .read-part .ensures in
+    let fits = subst (λ (p : Part). Fits p (came .room)) (c .before .before .before .before .before .before .before .before .before .before .before .before .before .before .part .given .1) (came .fits) in
+    let filled : ℕ = c .before .before .before .before .before .before .before .before .before .before .before .before .before .before .before .before .before .before .before .before .before .loop .held + c .before .before .before .before .before .before .before .before .before .before .before .before .before .before .part .given .0 .0 in
+    let inside : filled ≤ length (c .before .before .before .before .before .before .before .before .before .before .before .before .before .before .before .before .before .before .read-part .last .1 .1 .0) = omega (arith, fits, came .inside, came .size) in
+    let g = c .before .before .before .before .before .before .before .before .before .before .feed .ensures in
+    let few = c .if2 .left in
+    let same = laid-length (g .held) in
+    let same′ = laid-length (g .laid) in
+    let count = fed-count (c .before .before .before .before .before .before .before .before .before .before .before .before .before .before .before .before .before .before .before .before .before .loop .reader) filled (c .before .before .before .before .before .before .before .before .before .before .before .before .before .before .before .before .before .before .read-part .last .1 .1 .0) _ _ _ (c .before .before .before .before .before .before .before .before .before .before .feed .result) inside g in (
+      fed-short (c .before .before .before .before .before .before .before .before .before .before .before .before .before .before .before .before .before .before .before .before .before .loop .reader) filled (c .before .before .before .before .before .before .before .before .before .before .before .before .before .before .before .before .before .before .read-part .last .1 .1 .0) _ _ _ (c .before .before .before .before .before .before .before .before .before .before .feed .result) inside g (omega (arith, few)),
+      omega (arith, count, c .before .before .before .before .before .before .before .before .before .before .before .before .before .before .before .before .before .before .before .before .before .loop .inv .1),
+      omega (arith, same, came .size, c .before .before .before .before .before .before .before .before .before .before .before .before .before .before .before .before .before .before .before .before .before .loop .inv .2),
+      omega (arith, same′, c .before .before .before .before .before .before .before .before .before .before .before .before .before .before .before .before .before .before .before .before .before .loop .inv .3),
+      driven-fed (c .before .before .before .before .before .before .before .before .before .before .before .before .before .before .before .before .before .before .before .before .before .loop .reader) filled (c .before .before .before .before .before .before .before .before .before .before .before .before .before .before .before .before .before .before .read-part .last .1 .1 .0) _ _ _ (c .before .before .before .before .before .before .before .before .before .before .feed .result) inside (c .before .before .before .before .before .before .before .before .before .before .feed .ensures) (c .before .before .before .before .before .before .before .before .before .before .before .before .before .before .before .before .before .before .before .before .before .loop .held) (c .before .before .before .before .before .before .before .before .before .before .before .before .before .before .before .before .before .before .before .before .before .loop .input) (c .before .before .before .before .before .before .before .before .before .before .before .before .before .before .before .before .before .before .before .before .before .loop .inv .4) (came .kept) (omega arith),
+    )
+
+same-length-7 : tie.Need-same-length-7 Inv-loop μ-loop
+same-length-7 c = search needs
+
+same-length-8 : tie.Need-same-length-8 Inv-loop μ-loop
+same-length-8 c = search needs
+
+returns-4 : tie.Need-returns-4 Inv-loop μ-loop
+returns-4 c = c .before .loop .inv .4
+
+pub run-spec : {M : Type 1} → statement M
+run-spec =
+    tie.close
+    (tie.spec
+    Inv-loop
+    μ-loop
+    unread-requires
+    loop-holds
+    read-part-requires
+    enum-known-part
+    end-record-requires
+    same-length
+    same-length-2
+    returns
+    add-come
+    add-feed
+    feed-requires
+    write-lines-requires
+    same-length-3
+    same-length-4
+    returns-2
+    same-length-5
+    same-length-6
+    returns-3
+    loop-less
+    loop-again
+    same-length-7
+    same-length-8
+    returns-4)

@@ -1,0 +1,240 @@
+// Writes the bench record of what comes on one file descriptor to another, part by part, as it comes.
+ghost use mathlib.Core.Path.{_≡_};
+ghost use Prim.Native.Nat.{_+_, _*_, _-_, _^_, _≤_, _<_, min, max};
+ghost use lib.ListN.{length, take, drop};
+ghost use Rattle.decimals.specs.Laid.{Laid};
+ghost use Rattle.stream.specs.Parts.{feed, Advances};
+ghost use Rattle.recorder.specs.Recording.{partOf, Came, Feeds, Driven};
+use stream::Advanced;
+use stream::Reader;
+
+// Room for the bytes that are held and a part: more than the longest table has.
+pub type InputBuffer = [u8; 32768];
+
+// Room for all lines that the input buffer decides: 15 bytes for each of its bytes, and two lines.
+pub type RecordBuffer = [u8; 491610];
+
+// How it ended: the record is whole, a read failed, a write failed, or more events came than 64 bits count.
+pub enum Ended {
+    Whole,
+    NotRead,
+    NotWritten,
+    TooLong,
+}
+
+// How it ended, the reader behind the last part, and how many bytes are held at the front of the input buffer.
+pub struct Recorded {
+    pub ended: Ended,
+    pub reader: Reader,
+    pub held: usize,
+}
+
+// What a read gave: it failed, the input has ended, or so many bytes came.
+enum Part {
+    Failed,
+    End,
+    Bytes(usize),
+}
+
+// What a part did: the reader behind it, how many bytes are held for the next, and the length of the lines that were laid.
+struct Fed {
+    reader: Reader,
+    held: usize,
+    laid: usize,
+}
+
+// What `read` gave, by its answer and by how many bytes came.
+fn part_of(got: isize, count: usize) -> Part
+    ensures { λ r. ⌜ r ≡ partOf got count ⌝ }
+{
+    if got < 0 {
+        return Part::Failed;
+    }
+    if count == 0 {
+        return Part::End;
+    }
+    Part::Bytes(count)
+}
+
+// Where the next part ends in a buffer of so many bytes: at most so many behind those that are held, and at least one.
+fn part_end(held: usize, most: usize, size: usize) -> usize
+    requires { ⌜ held < size ⌝ }
+    ensures { λ r. ⌜ r ≡ min size (held + max 1 most) ⌝ }
+{
+    if most == 0 {
+        return held + 1;
+    }
+    if most < size - held {
+        return held + most;
+    }
+    size
+}
+
+// Reads what there is, at most so many bytes, behind those that are held.
+fn read_part(from: i32, most: usize, input: &mut [u8], held: usize) -> Part
+    requires { ⌜ held < length (now input) ⌝ }
+    ensures { λ r. ⌜ Came r held (now (input .entry)) (now (input .exit)) ⌝ }
+{
+    let end = part_end(held, most, input.len());
+    let got = libc::read(from, &mut input[held..end]);
+    let count = io::count(got, &input[held..end]);
+    part_of(got, count)
+}
+
+// All that the bytes decide, laid in two steps: one for the table, one for the events behind it.
+fn take_steps(reader: Reader, bytes: &[u8], lines: &mut [u8]) -> Advanced
+    requires { ⌜ (90 + 15 * length (now bytes) ≤ length (now lines)) × (reader .events + length (now bytes) + 1 < 2 ^ 64) ⌝ }
+    ensures { λ r. ⌜ Advances r (feed reader (now (bytes .entry))) 90 (now (lines .entry)) (now (lines .exit)) ⌝ }
+{
+    let first = stream::advance(reader, bytes, lines);
+    let middle = first.reader;
+    let used = first.used;
+    let laid = first.laid;
+    let second = stream::advance(middle, &bytes[used..], &mut lines[laid..]);
+    let after = second.reader;
+    Advanced {
+        reader: after,
+        used: used + second.used,
+        laid: laid + second.laid,
+    }
+}
+
+// Moves the bytes from one index up to another to the front; answers how many they are.
+fn keep(buf: &mut [u8], from: usize, to: usize) -> usize
+    requires { ⌜ (from ≤ to) × (to ≤ length (now buf)) ⌝ }
+    ensures { λ r. ⌜ Laid (now (buf .entry)) (now (buf .exit)) 0 r (to - from) (drop from (take to (now (buf .entry)))) ⌝ }
+{
+    let count = to - from;
+    let mut i = 0;
+    while i < count {
+        buf[i] = buf[from + i];
+        i += 1;
+    }
+    count
+}
+
+// A part has come: the input buffer starts with the bytes that were held and goes on with the part, so many bytes in all. Lays all lines
+// that they decide, and holds the bytes that were not used at the front of the input buffer.
+fn feed(reader: Reader, input: &mut [u8], filled: usize, lines: &mut [u8]) -> Fed
+    requires { ⌜ (filled ≤ length (now input)) × (90 + 15 * filled ≤ length (now lines)) × (reader .events + filled + 1 < 2 ^ 64) ⌝ }
+    ensures { λ r. ⌜ Feeds r (take filled (now (input .entry))) (feed reader (take filled (now (input .entry)))) (now (input .entry)) (now (input .exit)) (now (lines .entry)) (now (lines .exit)) ⌝ }
+{
+    let advanced = take_steps(reader, &input[..filled], lines);
+    let after = advanced.reader;
+    let used = advanced.used;
+    let held = keep(input, used, filled);
+    Fed {
+        reader: after,
+        held,
+        laid: advanced.laid,
+    }
+}
+
+// Writes the first n bytes; answers whether that went well.
+fn write_lines(to: i32, lines: &[u8], n: usize) -> bool
+    requires { ⌜ n ≤ length (now lines) ⌝ }
+{
+    io::write_all(to, &lines[..n])
+}
+
+// Writes the last line, where the first bytes of the input buffer were not used: those that some parts leave to this reader.
+fn write_last(to: i32, reader: Reader, input: &[u8], held: usize) -> bool
+    requires { ⌜ Driven reader (take held (now input)) × (held ≤ length (now input)) ⌝ }
+{
+    let mut line = [0; 64];
+    let n = stream::last_line(&mut line, reader, held);
+    write_lines(to, &line, n)
+}
+
+// How the record ends where no part came: with its last line, or with none where a read failed.
+fn end_record(to: i32, part: Part, reader: Reader, input: &[u8], held: usize) -> Ended
+    requires { ⌜ Driven reader (take held (now input)) × (held ≤ length (now input)) ⌝ }
+{
+    if let Part::Failed = part {
+        return Ended::NotRead;
+    }
+    if write_last(to, reader, input, held) {
+        return Ended::Whole;
+    }
+    Ended::NotWritten
+}
+
+// Reads part after part and writes the lines of each as it comes. A proved loop has to end: this one does after 2^64 - 2^16 bytes.
+fn run(from: i32, to: i32, most: usize, input: &mut [u8], lines: &mut [u8]) -> Recorded
+    requires { ⌜ (24650 ≤ length (now input)) × (length (now input) ≤ 32768) × (90 + 15 * length (now input) ≤ length (now lines)) ⌝ }
+    ensures { λ r. ⌜ Driven (r .reader) (take (r .held) (now (input .exit))) ⌝ }
+{
+    let mut reader = stream::unread();
+    let mut held = 0;
+    let mut come: u64 = 0;
+    while come < 18446744073709486080 {
+        let part = read_part(from, most, input, held);
+        let Part::Bytes(count) = part else {
+            let ended = end_record(to, part, reader, input, held);
+            return Recorded {
+                ended,
+                reader,
+                held,
+            };
+        };
+        come += count as u64;
+        let fed = feed(reader, input, held + count, lines);
+        let next = fed.reader;
+        reader = next;
+        held = fed.held;
+        if !write_lines(to, lines, fed.laid) {
+            return Recorded {
+                ended: Ended::NotWritten,
+                reader,
+                held,
+            };
+        }
+        if reader.refusal > 1 {
+            return Recorded {
+                ended: Ended::Whole,
+                reader,
+                held,
+            };
+        }
+    }
+    Recorded {
+        ended: Ended::TooLong,
+        reader,
+        held,
+    }
+}
+
+// Says in one line why the record is not whole.
+fn report(errors: i32, ended: Ended) {
+    match ended {
+        Ended::Whole => {}
+        Ended::NotRead => {
+            io::write_all(errors, b"bench: the input cannot be read\n");
+        }
+        Ended::NotWritten => {
+            io::write_all(errors, b"bench: the record cannot be written\n");
+        }
+        Ended::TooLong => {
+            io::write_all(errors, b"bench: the input is too long\n");
+        }
+    }
+}
+
+// Writes the record of what comes on `from`, at most so many bytes at a time (and at least one), to `to`: after each read the lines that
+// it decides, behind the last the last line. Where a read or a write fails it stops at once and says so on `errors`. What it hands back are
+// the reader and the bytes held, at the front of the input buffer, behind the parts that came.
+pub fn write_record(
+    from: i32,
+    to: i32,
+    errors: i32,
+    most: usize,
+    input: &mut InputBuffer,
+    lines: &mut RecordBuffer,
+) -> Recorded
+    ensures { λ r. ⌜ Driven (r .reader) (take (r .held) (now (input .exit))) ⌝ }
+{
+    let recorded = run(from, to, most, input, lines);
+    let ended = recorded.ended;
+    report(errors, ended);
+    recorded
+}
