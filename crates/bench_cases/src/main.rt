@@ -1,5 +1,5 @@
-// Runs the bench on each file that an argument names, in parts of one byte, of five, and as large as they come; then where nothing can be
-// written. Each run's record is followed by how it ended.
+// Runs the bench on each file that an argument names, in parts of one byte, of five, and as large as they come; then where no record, and
+// where no failure can be written. Each run's record is followed by how it ended.
 use libc::STDOUT_FILENO;
 use recorder::Ended;
 use recorder::InputBuffer;
@@ -12,7 +12,7 @@ fn say(text: &[u8], n: u64) {
     io::print_decimal(STDOUT_FILENO, n);
 }
 
-// Writes how a run ended: its outcome, how many events were answered, and how many bytes are left over.
+// Writes how a run ended: its outcome, how many bytes came, how the table stands, how many events were answered, and how many bytes are held.
 fn say_recorded(recorded: Recorded) {
     let ended = recorded.ended;
     match ended {
@@ -29,7 +29,8 @@ fn say_recorded(recorded: Recorded) {
             io::write_all(STDOUT_FILENO, b"too long");
         }
     }
-    say(b", table refused by ", recorded.reader.refusal as u64);
+    say(b", bytes ", recorded.come);
+    say(b", refusal ", recorded.reader.refusal as u64);
     say(b", events ", recorded.reader.events);
     say(b", bytes held ", recorded.held as u64);
     io::write_all(STDOUT_FILENO, b"\n\n");
@@ -41,31 +42,16 @@ fn run_in_parts(path: &[u8], most: usize, input: &mut InputBuffer, lines: &mut R
     say(b", at most ", most as u64);
     io::write_all(STDOUT_FILENO, b" bytes at a time:\n");
     let file = os::open_read(path);
-    let recorded = recorder::write_record(
-        file,
-        STDOUT_FILENO,
-        STDOUT_FILENO,
-        most,
-        input,
-        lines,
-    );
+    let recorded = recorder::write_record(file, STDOUT_FILENO, STDOUT_FILENO, most, input, lines);
     libc::close(file);
     say_recorded(recorded);
 }
 
-// A run on the file whose record goes to a descriptor that is open for reading alone.
-fn run_unwritten(path: &[u8], input: &mut InputBuffer, lines: &mut RecordBuffer) {
-    io::write_all(STDOUT_FILENO, path);
-    io::write_all(STDOUT_FILENO, b", to where nothing can be written:\n");
-    let file = os::open_read(path);
-    let recorded = recorder::write_record(
-        file,
-        file,
-        STDOUT_FILENO,
-        32768,
-        input,
-        lines,
-    );
+// A run on the example whose record goes to a descriptor that is open for reading alone; what it says of that goes to the other one.
+fn run_unwritten(text: &[u8], errors: i32, input: &mut InputBuffer, lines: &mut RecordBuffer) {
+    io::write_all(STDOUT_FILENO, text);
+    let file = os::open_read(b"example");
+    let recorded = recorder::write_record(file, file, errors, 32768, input, lines);
     libc::close(file);
     say_recorded(recorded);
 }
@@ -79,14 +65,30 @@ fn run_argument(i: usize, input: &mut InputBuffer, lines: &mut RecordBuffer) {
     run_in_parts(&path[..length], 32768, input, lines);
 }
 
-fn main() {
-    let mut input = [0; 32768];
-    let mut lines = [0; 491610];
+// The runs on the files of all arguments.
+fn run_arguments(input: &mut InputBuffer, lines: &mut RecordBuffer) {
     let count = os::arg_count();
     let mut i = 1;
     while i < count {
-        run_argument(i, &mut input, &mut lines);
+        run_argument(i, input, lines);
         i += 1;
     }
-    run_unwritten(b"example", &mut input, &mut lines);
+}
+
+fn main() {
+    let mut input = [0; 32768];
+    let mut lines = [0; 491610];
+    run_arguments(&mut input, &mut lines);
+    run_unwritten(
+        b"example, to where nothing can be written:\n",
+        STDOUT_FILENO,
+        &mut input,
+        &mut lines,
+    );
+    run_unwritten(
+        b"example, with no place for errors:\n",
+        -1,
+        &mut input,
+        &mut lines,
+    );
 }

@@ -1,15 +1,18 @@
 -- What the program that writes the record keeps between two parts of its input, and what a read gives. What `read` and `write` moved no
 -- contract can say; what stands in memory, before and after them, is said here.
 -- Assumes nothing.
-use Prim.Native.Nat.{ℕ, zero, suc, _+_, _*_, _≤_}
+use Prim.Native.Nat.{ℕ, zero, suc, _+_, _*_, _-_, _^_, _≤_, _<_}
 use mathlib.Core.Path.{_≡_}
+use mathlib.Core.Logic.{_⊎_}
 use mathlib.Core.List.{List}
 use lib.IntN.{ℤ, pos, negsuc}
 use lib.ListN.{length, take, drop}
 use Rattle.decimals.specs.Laid.{Laid}
 use Rattle.stream.specs.declared.Reader.{Reader}
-use Rattle.stream.specs.Parts.{Advance, Progress, begun, fedAll}
+use Rattle.stream.specs.Parts.{Advance, Progress, begun, fedAll, joinedParts}
 use Rattle.recorder.specs.declared.Part.{Part}
+use Rattle.recorder.specs.declared.Ended.{Ended}
+use Rattle.recorder.specs.declared.Recorded.{Recorded}
 use Rattle.recorder.specs.declared.Fed.{Fed}
 
 -- what `read` gave, by its answer and by how many bytes came: a negative answer is a failure, and no byte is the input's end
@@ -39,9 +42,32 @@ pub record Feeds (r : Fed) (bytes : List ℕ) (t : Advance) (input input′ line
   pub held : Laid input input′ 0 (r .held) (length bytes) (drop (t .used) bytes)
   pub laid : Laid lines lines′ 0 (r .laid) (90 + 15 * length bytes) (t .lines)
 
--- a reader and the bytes that it has not used, as some parts leave them that came one after the other. By `record-of-parts` all lines laid
--- for these parts, and then the last line of this reader and these bytes, are the record of the parts joined.
-pub record Driven (reader : Reader) (held : List ℕ) : Type 0 where
+-- a reader and the bytes that it has not used, as some parts leave them that came one after the other, so many bytes in all. By
+-- `record-of-parts` all lines laid for these parts, and then the last line of this reader and these bytes, are the record of the parts joined.
+pub record Driven (reader : Reader) (held : List ℕ) (come : ℕ) : Type 0 where
   pub parts : List (List ℕ)
   pub reader-is : reader ≡ fedAll parts begun .reader
   pub held-is : held ≡ fedAll parts begun .held
+  pub come-is : come ≡ length (joinedParts parts)
+
+-- a proved loop has to end: no part is read behind so many bytes, whose events 64 bits count
+abbrev pub mostBytes : ℕ
+mostBytes = 2 ^ 64 - 2 ^ 16
+
+-- how it may end behind so many bytes: the record is whole at the input's end or behind a refused table; which of read and write failed
+-- only a run shows
+abbrev pub Ends : Ended → ℕ → Reader → Type 0
+Ends Ended.Whole come r = (come < mostBytes) ⊎ (2 ≤ r .refusal)
+Ends Ended.NotRead come r = come < mostBytes
+Ends Ended.NotWritten come r = Unit {0}
+Ends Ended.TooLong come r = mostBytes ≤ come
+
+-- how it may end where no part came
+abbrev pub EndsWithoutPart : Ended → Reader → Type 0
+EndsWithoutPart e r = (come : ℕ) → come < mostBytes → Ends e come r
+
+-- what is handed back, and the input buffer, whose front has the bytes held
+pub record Records (r : Recorded) (input : List ℕ) : Type 0 where
+  pub driven : Driven (r .reader) (take (r .held) input) (r .come)
+  pub inside : r .held ≤ length input
+  pub ends : Ends (r .ended) (r .come) (r .reader)

@@ -1,10 +1,11 @@
 // Writes the bench record of what comes on one file descriptor to another, part by part, as it comes.
 ghost use mathlib.Core.Path.{_≡_};
-ghost use Prim.Native.Nat.{_+_, _*_, _-_, _^_, _≤_, _<_, min, max};
+ghost use Prim.Native.Nat.{ℕ, _+_, _*_, _-_, _^_, _≤_, _<_, min, max};
 ghost use lib.ListN.{length, take, drop};
+ghost use Rattle.table_bytes.specs.Decided.{longestTable};
 ghost use Rattle.decimals.specs.Laid.{Laid};
 ghost use Rattle.stream.specs.Parts.{feed, Advances};
-ghost use Rattle.recorder.specs.Recording.{partOf, Came, Feeds, Driven};
+ghost use Rattle.recorder.specs.Recording.{partOf, Came, Feeds, Driven, EndsWithoutPart, Records};
 use stream::Advanced;
 use stream::Reader;
 
@@ -22,9 +23,10 @@ pub enum Ended {
     TooLong,
 }
 
-// How it ended, the reader behind the last part, and how many bytes are held at the front of the input buffer.
+// How it ended, how many bytes came, the reader behind them, and how many of them are held at the front of the input buffer.
 pub struct Recorded {
     pub ended: Ended,
+    pub come: u64,
     pub reader: Reader,
     pub held: usize,
 }
@@ -139,7 +141,7 @@ fn write_lines(to: i32, lines: &[u8], n: usize) -> bool
 
 // Writes the last line, where the first bytes of the input buffer were not used: those that some parts leave to this reader.
 fn write_last(to: i32, reader: Reader, input: &[u8], held: usize) -> bool
-    requires { ⌜ Driven reader (take held (now input)) × (held ≤ length (now input)) ⌝ }
+    requires { ⌜ ((come : ℕ) × Driven reader (take held (now input)) come) × (held ≤ length (now input)) ⌝ }
 {
     let mut line = [0; 64];
     let n = stream::last_line(&mut line, reader, held);
@@ -148,7 +150,8 @@ fn write_last(to: i32, reader: Reader, input: &[u8], held: usize) -> bool
 
 // How the record ends where no part came: with its last line, or with none where a read failed.
 fn end_record(to: i32, part: Part, reader: Reader, input: &[u8], held: usize) -> Ended
-    requires { ⌜ Driven reader (take held (now input)) × (held ≤ length (now input)) ⌝ }
+    requires { ⌜ ((come : ℕ) × Driven reader (take held (now input)) come) × (held ≤ length (now input)) ⌝ }
+    ensures { λ r. ⌜ EndsWithoutPart r reader ⌝ }
 {
     if let Part::Failed = part {
         return Ended::NotRead;
@@ -159,10 +162,22 @@ fn end_record(to: i32, part: Part, reader: Reader, input: &[u8], held: usize) ->
     Ended::NotWritten
 }
 
+// What is handed back, of these parts.
+fn hand_back(ended: Ended, come: u64, reader: Reader, held: usize) -> Recorded
+    ensures { λ r. ⌜ r ≡ record { ended = ended; come = come; reader = reader; held = held } ⌝ }
+{
+    Recorded {
+        ended,
+        come,
+        reader,
+        held,
+    }
+}
+
 // Reads part after part and writes the lines of each as it comes. A proved loop has to end: this one does after 2^64 - 2^16 bytes.
 fn run(from: i32, to: i32, most: usize, input: &mut [u8], lines: &mut [u8]) -> Recorded
-    requires { ⌜ (24650 ≤ length (now input)) × (length (now input) ≤ 32768) × (90 + 15 * length (now input) ≤ length (now lines)) ⌝ }
-    ensures { λ r. ⌜ Driven (r .reader) (take (r .held) (now (input .exit))) ⌝ }
+    requires { ⌜ (longestTable ≤ length (now input)) × (length (now input) < 2 ^ 16) × (90 + 15 * length (now input) ≤ length (now lines)) ⌝ }
+    ensures { λ r. ⌜ Records r (now (input .exit)) ⌝ }
 {
     let mut reader = stream::unread();
     let mut held = 0;
@@ -171,11 +186,7 @@ fn run(from: i32, to: i32, most: usize, input: &mut [u8], lines: &mut [u8]) -> R
         let part = read_part(from, most, input, held);
         let Part::Bytes(count) = part else {
             let ended = end_record(to, part, reader, input, held);
-            return Recorded {
-                ended,
-                reader,
-                held,
-            };
+            return hand_back(ended, come, reader, held);
         };
         come += count as u64;
         let fed = feed(reader, input, held + count, lines);
@@ -183,25 +194,13 @@ fn run(from: i32, to: i32, most: usize, input: &mut [u8], lines: &mut [u8]) -> R
         reader = next;
         held = fed.held;
         if !write_lines(to, lines, fed.laid) {
-            return Recorded {
-                ended: Ended::NotWritten,
-                reader,
-                held,
-            };
+            return hand_back(Ended::NotWritten, come, reader, held);
         }
         if reader.refusal > 1 {
-            return Recorded {
-                ended: Ended::Whole,
-                reader,
-                held,
-            };
+            return hand_back(Ended::Whole, come, reader, held);
         }
     }
-    Recorded {
-        ended: Ended::TooLong,
-        reader,
-        held,
-    }
+    hand_back(Ended::TooLong, come, reader, held)
 }
 
 // Says in one line why the record is not whole.
@@ -231,7 +230,7 @@ pub fn write_record(
     input: &mut InputBuffer,
     lines: &mut RecordBuffer,
 ) -> Recorded
-    ensures { λ r. ⌜ Driven (r .reader) (take (r .held) (now (input .exit))) ⌝ }
+    ensures { λ r. ⌜ Records r (now (input .exit)) ⌝ }
 {
     let recorded = run(from, to, most, input, lines);
     let ended = recorded.ended;

@@ -1,15 +1,15 @@
--- `bench_cases::main` is safe and ends: the arguments that are left fall.
+-- `bench_cases::run_arguments` is safe and ends: the arguments that are left fall.
 -- Assumes nothing.
 use Prim.Native.Nat.{_-_}
 use borrow.Author.Needs.{needs}
-use Rattle.bench_cases.proofs.main.Statement.{statement}
-use Rattle.bench_cases.proofs.main.Tie as tie
+use Rattle.bench_cases.proofs.run_arguments.Statement.{statement}
+use Rattle.bench_cases.proofs.run_arguments.Tie as tie
 
 abbrev Inv-loop : tie.InvT-loop
-Inv-loop input₀ lines₀ count i₀ t5 input lines i = Unit {0}
+Inv-loop input₀ lines₀ count i₀ input lines i = Unit {0}
 
 abbrev μ-loop : tie.MeasureT-loop
-μ-loop input₀ lines₀ count i₀ t5 input lines i = count - i
+μ-loop input₀ lines₀ count i₀ input lines i = count - i
 
 arg-count-requires : tie.Need-arg-count-requires Inv-loop μ-loop
 arg-count-requires c κs = search needs
@@ -29,17 +29,11 @@ loop-less c = search needs
 loop-again : tie.Need-loop-again Inv-loop μ-loop
 loop-again c = tt
 
-slice-aggregate-run-unwritten : tie.Need-slice-aggregate-run-unwritten Inv-loop μ-loop
-slice-aggregate-run-unwritten c = search needs
-
-run-unwritten-requires : tie.Need-run-unwritten-requires Inv-loop μ-loop
-run-unwritten-requires c κs = search needs
-
 returns : tie.Need-returns Inv-loop μ-loop
 returns c = tt
 
-pub main-spec : {M : Type 1} → statement M
-main-spec =
+pub run-arguments-spec : {M : Type 1} → statement M
+run-arguments-spec =
     tie.close
     (tie.spec
     Inv-loop
@@ -50,6 +44,4 @@ main-spec =
     add-i
     loop-less
     loop-again
-    slice-aggregate-run-unwritten
-    run-unwritten-requires
     returns)
