@@ -9,7 +9,7 @@ use lib.IntN.{ℤ, pos, negsuc}
 use lib.ListN.{length, take, drop}
 use Rattle.decimals.specs.Laid.{Laid}
 use Rattle.stream.specs.declared.Reader.{Reader}
-use Rattle.stream.specs.Parts.{Advance, Progress, begun, fedAll, joinedParts}
+use Rattle.stream.specs.Parts.{Advance, begun, fedAll, joinedParts}
 use Rattle.recorder.specs.declared.Part.{Part}
 use Rattle.recorder.specs.declared.Ended.{Ended}
 use Rattle.recorder.specs.declared.Recorded.{Recorded}

@@ -4,9 +4,7 @@ use Prim.Native.Nat.{ℕ}
 use mathlib.Core.Path.{_≡_, refl, sym, subst}
 use mathlib.Core.List.{List, []}
 use native.Mathlib.Omega.{arith}
-use lib.Dec.{eqb}
 use borrow.Author.Tests.{eq-eqb, ne-eqb}
-use Rattle.basics.specs.Choice.{if_then_else_}
 use Rattle.decimals.specs.Laid.{Laid}
 use Rattle.lines.specs.Lines.{headerLine, endLine, shortLine, refusedLine}
 use Rattle.stream.specs.declared.Reader.{Reader}

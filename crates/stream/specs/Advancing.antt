@@ -1,7 +1,7 @@
 -- A step by where the reader is (`advance-cases`), what it uses, and the law that all rests on: the lines that it lays, and then what is
 -- left to be laid behind it, are what was left before it (`advance-lays`).
 -- Assumes nothing.
-use Prim.Native.Nat.{ℕ, zero, suc, _+_, _*_, _/_, _%_, _≤_, _<_, min}
+use Prim.Native.Nat.{ℕ, zero, suc, _+_, _*_, _/_, _%_, _≤_, min}
 use mathlib.Core.Path.{_≡_, refl, sym, ap, ap₂, subst, _∙_}
 use mathlib.Core.Logic.{_⊎_, inl, inr}
 use mathlib.Core.Bool.{Bool, true, false}
@@ -19,7 +19,7 @@ use Rattle.table.specs.declared.TableRead.{TableRead}
 use Rattle.table.specs.Reading.{readTable}
 use Rattle.table.specs.Fresh.{read-refusal, read-accepted, read-refused}
 use Rattle.table.specs.Decided.{table-decided}
-use Rattle.lines.specs.Lines.{headerLine, endLine, shortLine, refusedLine}
+use Rattle.lines.specs.Lines.{headerLine, endLine, shortLine}
 use Rattle.record.specs.Record.{eventLines, stateAfter, lastLine, recordBehind, recordOf}
 use Rattle.record.specs.RecordLaws.{event-lines-join, used-within}
 use Rattle.stream.specs.declared.Reader.{Reader}

@@ -20,7 +20,7 @@ use Rattle.lines.specs.Lines.{endLine, shortLine, refusedLine}
 use Rattle.record.specs.Record.{recordOf}
 use Rattle.record.specs.RecordLaws.{event-lines-none}
 use Rattle.stream.specs.declared.Reader.{Reader}
-use Rattle.stream.specs.Parts.{Advance, opened, unread, opening, unchanged, answering, advance, lastLineOf, feed, Progress, begun, fed, fedAll, closed, joinedParts}
+use Rattle.stream.specs.Parts.{Advance, opened, unread, unchanged, advance, lastLineOf, feed, Progress, begun, fed, fedAll, closed, joinedParts}
 use Rattle.stream.specs.Advancing.{advance-cases, advance-open, refused-used, accepted-used, advance-within, advance-count, left, left-open, left-events, left-refused, lastBehind, advance-lays}
 
 -- ---- a reader that waits for more bytes, or for none

@@ -5,7 +5,7 @@
 use Prim.Native.Nat.{ℕ, _≤_}
 use mathlib.Core.Path.{_≡_, refl, sym, ap, subst, _∙_}
 use mathlib.Core.List.{List, [], _∷_, _++_, append-assoc}
-use lib.ListN.{length, drop}
+use lib.ListN.{drop}
 use Rattle.record.specs.Record.{recordOf}
 use Rattle.stream.specs.Parts.{Advance, unread, advance, Progress, begun, closed}
 use Rattle.stream.specs.Advancing.{left, left-open, advance-lays}

@@ -11,11 +11,10 @@ use lib.Seq.{take-append-le, drop-append-le}
 use Rattle.ranks.specs.Ranks.{limit}
 use Rattle.state.specs.declared.State.{State}
 use Rattle.state.specs.State.{read, write, zeros, freshState}
-use Rattle.table_bytes.specs.Bytes.{byte, processorsIn, jobsIn, objectsIn, rankIn, objectIn, modeIn, entryCount, entriesStart, tableLength}
+use Rattle.table_bytes.specs.Bytes.{processorsIn, jobsIn, objectsIn, rankIn, objectIn, modeIn, entryCount, entriesStart, tableLength}
 use Rattle.table_bytes.specs.Refusals.{tableRefusal}
-use Rattle.table_bytes.specs.Accepted.{Accepted, accepted}
+use Rattle.table_bytes.specs.Accepted.{accepted}
 use Rattle.table_bytes.specs.Decided.{same, same-jobs, same-count, same-length, same-rank, same-object, same-mode, refusal-decided}
-use Rattle.table.specs.declared.TableRead.{TableRead}
 use Rattle.table.specs.Reading.{processorsOf, withRight, declaredIn, tableState, refusedRead, readTable}
 use Rattle.table.specs.Fresh.{read-refusal, read-accepted, read-refused}
 

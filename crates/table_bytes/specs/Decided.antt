@@ -10,7 +10,7 @@ use native.Mathlib.Omega.{arith}
 use lib.ListN.{length, length-append, List·getD-append}
 use lib.Dec.{eqb, ltb}
 use borrow.Author.Tests.{le-ltb, lt-ltb}
-use Rattle.basics.specs.Choice.{_if_else_, _orElse_, between, if-not, or-else-not}
+use Rattle.basics.specs.Choice.{between, if-not, or-else-not}
 use Rattle.basics.specs.Loops.{firstNonzero, first-nonzero-same, first-nonzero-not}
 use Rattle.ranks.specs.Ranks.{limit}
 use Rattle.state.specs.WellFormed.{countsWithin}

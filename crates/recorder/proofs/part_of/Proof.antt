@@ -13,7 +13,6 @@ use mir.Val.{toZ, ofZ}
 use mir.Facts.{toZ-ofZ}
 use Rattle.recorder.specs.declared.Part.{Part}
 use Rattle.recorder.specs.Recording.{partOf}
-use borrow.Author.Needs.{needs}
 use Rattle.recorder.proofs.part_of.Statement.{statement}
 use Rattle.recorder.proofs.part_of.Tie as tie
 
