@@ -29,9 +29,9 @@ fn say_recorded(recorded: Recorded) {
             io::write_all(STDOUT_FILENO, b"too long");
         }
     }
-    say(b", bytes ", recorded.come);
-    say(b", refusal ", recorded.reader.refusal as u64);
-    say(b", events ", recorded.reader.events);
+    say(b", bytes ", recorded.received);
+    say(b", refusal ", recorded.bench.refusal as u64);
+    say(b", events ", recorded.bench.events);
     say(b", bytes held ", recorded.held as u64);
     io::write_all(STDOUT_FILENO, b"\n\n");
 }

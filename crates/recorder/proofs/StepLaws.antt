@@ -8,7 +8,7 @@ use native.Mathlib.Nat.{zero-add}
 use lib.ListN.{length, take, drop, length-drop, drop-of-length-le}
 use lib.Seq.{take-all, sets, sets-eq, drop-drop}
 use Rattle.decimals.specs.Laid.{Laid, laid-then, laid-is}
-use Rattle.stream.specs.declared.Reader.{Reader}
+use Rattle.stream.specs.declared.Bench.{Bench}
 use Rattle.stream.specs.declared.Advanced.{Advanced}
 use Rattle.stream.specs.Parts.{Advance, advance, feed, Advances}
 use Rattle.stream.specs.Advancing.{advance-within, advance-count, advance-enough}
@@ -47,59 +47,59 @@ length-rest l i = ap length (rest-all l i) ∙ length-drop i l
 
 -- ---- one step
 
-module _ (reader : Reader) (bytes : List ℕ) (most : ℕ) (r : Advanced) (a b : List ℕ) (p : Advances r (advance most reader bytes) 45 a b) where
+module _ (bench : Bench) (bytes : List ℕ) (most : ℕ) (r : Advanced) (a b : List ℕ) (p : Advances r (advance most bench bytes) 45 a b) where
   pub taken-within : r .used ≤ length bytes
-  taken-within = omega (arith, p .used, advance-within most reader bytes)
+  taken-within = omega (arith, p .used, advance-within most bench bytes)
 
   pub taken-room : r .laid ≤ 45 + 15 * r .used
   taken-room = omega (arith, p .used, p .laid .within)
 
-  pub taken-count : r .reader .events + length (drop (r .used) bytes) ≤ reader .events + length bytes
+  pub taken-count : r .bench .events + length (drop (r .used) bytes) ≤ bench .events + length bytes
   taken-count =
-      subst (λ (x : Reader). x .events + length (drop (r .used) bytes) ≤ reader .events + length bytes) (sym (p .reader))
-      (subst (λ (n : ℕ). advance most reader bytes .reader .events + length (drop n bytes) ≤ reader .events + length bytes) (sym (p .used)) (advance-count most reader bytes))
+      subst (λ (x : Bench). x .events + length (drop (r .used) bytes) ≤ bench .events + length bytes) (sym (p .bench))
+      (subst (λ (n : ℕ). advance most bench bytes .bench .events + length (drop n bytes) ≤ bench .events + length bytes) (sym (p .used)) (advance-count most bench bytes))
 
 -- ---- two steps
 
-module _ (reader : Reader) (bytes : List ℕ) (m n : ℕ) (first second : Advanced) (a b d : List ℕ)
-    (p : Advances first (advance m reader bytes) 45 a b)
-    (q : Advances second (advance n (first .reader) (take (length bytes - first .used) (drop (first .used) bytes))) 45 (take (length b - first .laid) (drop (first .laid) b)) d) where
+module _ (bench : Bench) (bytes : List ℕ) (m n : ℕ) (first second : Advanced) (a b d : List ℕ)
+    (p : Advances first (advance m bench bytes) 45 a b)
+    (q : Advances second (advance n (first .bench) (take (length bytes - first .used) (drop (first .used) bytes))) 45 (take (length b - first .laid) (drop (first .laid) b)) d) where
   pub both-within : first .used + second .used ≤ length bytes
   both-within =
       omega (
         arith,
-        taken-within reader bytes m first a b p,
+        taken-within bench bytes m first a b p,
         length-rest bytes (first .used),
-        taken-within (first .reader) (take (length bytes - first .used) (drop (first .used) bytes)) n second (take (length b - first .laid) (drop (first .laid) b)) d q,
+        taken-within (first .bench) (take (length bytes - first .used) (drop (first .used) bytes)) n second (take (length b - first .laid) (drop (first .laid) b)) d q,
       )
 
   pub both-room : first .laid + second .laid ≤ 90 + 15 * (first .used + second .used)
   both-room =
       omega (
         arith,
-        taken-room reader bytes m first a b p,
-        taken-room (first .reader) (take (length bytes - first .used) (drop (first .used) bytes)) n second (take (length b - first .laid) (drop (first .laid) b)) d q,
+        taken-room bench bytes m first a b p,
+        taken-room (first .bench) (take (length bytes - first .used) (drop (first .used) bytes)) n second (take (length b - first .laid) (drop (first .laid) b)) d q,
       )
 
   pub steps-taken : 1 ≤ m → length bytes / 3 ≤ m → 1 ≤ n → (length bytes - first .used) / 3 ≤ n → 90 + 15 * length bytes ≤ length b
-      → Advances (record { reader = second .reader; used = first .used + second .used; laid = first .laid + second .laid }) (feed reader bytes) 90 a
+      → Advances (record { bench = second .bench; used = first .used + second .used; laid = first .laid + second .laid }) (feed bench bytes) 90 a
       (take (first .laid) b ++ (d ++ drop (length b - first .laid) (drop (first .laid) b)))
   unfolding feed
   steps-taken some enough some′ enough′ room =
       let most : ℕ = suc (length bytes) in
-      let one : Advance = advance most reader bytes in
-      let two : Advance = advance most (one .reader) (drop (one .used) bytes) in
-      let is : advance m reader bytes ≡ one = advance-enough m most reader bytes some (omega arith) enough (omega arith) in
+      let one : Advance = advance most bench bytes in
+      let two : Advance = advance most (one .bench) (drop (one .used) bytes) in
+      let is : advance m bench bytes ≡ one = advance-enough m most bench bytes some (omega arith) enough (omega arith) in
       let used : first .used ≡ one .used = p .used ∙ ap (λ (t : Advance). t .used) is in
-      let here : first .reader ≡ one .reader = p .reader ∙ ap (λ (t : Advance). t .reader) is in
-      let is′ : advance n (first .reader) (take (length bytes - first .used) (drop (first .used) bytes)) ≡ two =
-      ap (advance n (first .reader)) (rest-all bytes (first .used))
-      ∙ advance-enough n most (first .reader) (drop (first .used) bytes) some′ (omega arith) (omega (arith, length-drop (first .used) bytes)) (omega (arith, length-drop (first .used) bytes))
-      ∙ ap₂ (λ (x : Reader) (k : ℕ). advance most x (drop k bytes)) here used in
+      let here : first .bench ≡ one .bench = p .bench ∙ ap (λ (t : Advance). t .bench) is in
+      let is′ : advance n (first .bench) (take (length bytes - first .used) (drop (first .used) bytes)) ≡ two =
+      ap (advance n (first .bench)) (rest-all bytes (first .used))
+      ∙ advance-enough n most (first .bench) (drop (first .used) bytes) some′ (omega arith) (omega (arith, length-drop (first .used) bytes)) (omega (arith, length-drop (first .used) bytes))
+      ∙ ap₂ (λ (x : Bench) (k : ℕ). advance most x (drop k bytes)) here used in
       let used′ : second .used ≡ two .used = q .used ∙ ap (λ (t : Advance). t .used) is′ in
-      let laid′ = subst (λ (l : List ℕ). Laid l d 0 (second .laid) (45 + 15 * advance n (first .reader) (take (length bytes - first .used) (drop (first .used) bytes)) .used) (advance n (first .reader) (take (length bytes - first .used) (drop (first .used) bytes)) .lines)) (rest-all b (first .laid)) (q .laid) in
+      let laid′ = subst (λ (l : List ℕ). Laid l d 0 (second .laid) (45 + 15 * advance n (first .bench) (take (length bytes - first .used) (drop (first .used) bytes)) .used) (advance n (first .bench) (take (length bytes - first .used) (drop (first .used) bytes)) .lines)) (rest-all b (first .laid)) (q .laid) in
       record {
-        reader = q .reader ∙ ap (λ (t : Advance). t .reader) is′;
+        bench = q .bench ∙ ap (λ (t : Advance). t .bench) is′;
         used = ap₂ _+_ used used′;
         laid =
             laid-is (laid-behind (p .laid) laid′ (ap (λ (l : List ℕ). take (first .laid) b ++ l) (ap (λ (l : List ℕ). d ++ l) (rest-none b (first .laid)) ∙ append-nil d))
@@ -109,5 +109,5 @@ module _ (reader : Reader) (bytes : List ℕ) (m n : ℕ) (first second : Advanc
 
 -- ---- a part
 
-pub fed-within : (reader : Reader) (bytes : List ℕ) (r : Advanced) (a b : List ℕ) → Advances r (feed reader bytes) 90 a b → r .used ≤ length bytes
-fed-within reader bytes r a b p = omega (arith, p .used, feed-within reader bytes)
+pub fed-within : (bench : Bench) (bytes : List ℕ) (r : Advanced) (a b : List ℕ) → Advances r (feed bench bytes) 90 a b → r .used ≤ length bytes
+fed-within bench bytes r a b p = omega (arith, p .used, feed-within bench bytes)

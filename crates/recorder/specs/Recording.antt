@@ -8,7 +8,7 @@ use mathlib.Core.List.{List}
 use lib.IntN.{ℤ, pos, negsuc}
 use lib.ListN.{length, take, drop}
 use Rattle.decimals.specs.Laid.{Laid}
-use Rattle.stream.specs.declared.Reader.{Reader}
+use Rattle.stream.specs.declared.Bench.{Bench}
 use Rattle.stream.specs.Parts.{Advance, begun, fedAll, joinedParts}
 use Rattle.recorder.specs.declared.Part.{Part}
 use Rattle.recorder.specs.declared.Ended.{Ended}
@@ -38,17 +38,17 @@ pub record Came (p : Part) (held : ℕ) (before after : List ℕ) : Type 0 where
 -- a part that was fed: its lines stand at the front of their buffer, and the bytes that were not used at the front of the input's; both
 -- buffers are otherwise as they were
 pub record Feeds (r : Fed) (bytes : List ℕ) (t : Advance) (input input′ lines lines′ : List ℕ) : Type 0 where
-  pub reader : r .reader ≡ t .reader
+  pub bench : r .bench ≡ t .bench
   pub held : Laid input input′ 0 (r .held) (length bytes) (drop (t .used) bytes)
   pub laid : Laid lines lines′ 0 (r .laid) (90 + 15 * length bytes) (t .lines)
 
--- a reader and the bytes that it has not used, as some parts leave them that came one after the other, so many bytes in all. By
--- `record-of-parts` all lines laid for these parts, and then the last line of this reader and these bytes, are the record of the parts joined.
-pub record Driven (reader : Reader) (held : List ℕ) (come : ℕ) : Type 0 where
+-- the bench and the bytes that it has not used, as some parts leave them that came one after the other, so many bytes in all. By
+-- `record-of-parts` all lines laid for these parts, and then the last line of this bench and these bytes, are the record of the parts joined.
+pub record AfterParts (bench : Bench) (held : List ℕ) (received : ℕ) : Type 0 where
   pub parts : List (List ℕ)
-  pub reader-is : reader ≡ fedAll parts begun .reader
+  pub bench-is : bench ≡ fedAll parts begun .bench
   pub held-is : held ≡ fedAll parts begun .held
-  pub come-is : come ≡ length (joinedParts parts)
+  pub received-is : received ≡ length (joinedParts parts)
 
 -- a proved loop has to end: no part is read behind so many bytes, whose events 64 bits count
 abbrev pub mostBytes : ℕ
@@ -56,18 +56,18 @@ mostBytes = 2 ^ 64 - 2 ^ 16
 
 -- how it may end behind so many bytes: the record is whole at the input's end or behind a refused table; which of read and write failed
 -- only a run shows
-abbrev pub Ends : Ended → ℕ → Reader → Type 0
-Ends Ended.Whole come r = (come < mostBytes) ⊎ (2 ≤ r .refusal)
-Ends Ended.NotRead come r = come < mostBytes
-Ends Ended.NotWritten come r = Unit {0}
-Ends Ended.TooLong come r = mostBytes ≤ come
+abbrev pub Ends : Ended → ℕ → Bench → Type 0
+Ends Ended.Whole received r = (received < mostBytes) ⊎ (2 ≤ r .refusal)
+Ends Ended.NotRead received r = received < mostBytes
+Ends Ended.NotWritten received r = Unit {0}
+Ends Ended.TooLong received r = mostBytes ≤ received
 
 -- how it may end where no part came
-abbrev pub EndsWithoutPart : Ended → Reader → Type 0
-EndsWithoutPart e r = (come : ℕ) → come < mostBytes → Ends e come r
+abbrev pub EndsWithoutPart : Ended → Bench → Type 0
+EndsWithoutPart e r = (received : ℕ) → received < mostBytes → Ends e received r
 
 -- what is handed back, and the input buffer, whose front has the bytes held
 pub record Records (r : Recorded) (input : List ℕ) : Type 0 where
-  pub driven : Driven (r .reader) (take (r .held) input) (r .come)
+  pub after-parts : AfterParts (r .bench) (take (r .held) input) (r .received)
   pub inside : r .held ≤ length input
-  pub ends : Ends (r .ended) (r .come) (r .reader)
+  pub ends : Ends (r .ended) (r .received) (r .bench)

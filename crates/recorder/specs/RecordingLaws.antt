@@ -1,4 +1,4 @@
--- What holds of a reader and the bytes held behind each part: they are as the parts leave them (`driven-fed`), the bytes are fewer than a
+-- What holds of the bench and the bytes held behind each part: they are as the parts leave them (`after-fed`), the bytes are fewer than a
 -- table has (`fed-short`), and the events and the bytes are no more than have come (`fed-count`).
 -- Assumes nothing.
 use Prim.Native.Nat.{ℕ, zero, suc, _+_, _≤_, _<_}
@@ -11,22 +11,22 @@ use lib.ListN.{length, take, drop, length-append, length-drop, take-append-drop}
 use lib.Seq.{take-take, length-take-le}
 use Rattle.table_bytes.specs.Decided.{longestTable}
 use Rattle.decimals.specs.Laid.{laid-front}
-use Rattle.stream.specs.declared.Reader.{Reader}
+use Rattle.stream.specs.declared.Bench.{Bench}
 use Rattle.stream.specs.Parts.{Advance, unread, feed, Progress, begun, fed, fedAll, joinedParts}
 use Rattle.stream.specs.AnyParts.{settled-short, feed-count, feed-settled}
 use Rattle.recorder.specs.declared.Fed.{Fed}
 use Rattle.recorder.specs.declared.Ended.{Ended}
 use Rattle.recorder.specs.declared.Recorded.{Recorded}
-use Rattle.recorder.specs.Recording.{partOf, Fits, Feeds, Driven, Ends, Records}
+use Rattle.recorder.specs.Recording.{partOf, Fits, Feeds, AfterParts, Ends, Records}
 
 pub part-fits : (got : ℤ) (count room : ℕ) → count ≤ room → Fits (partOf got count) room
 part-fits (negsuc k) count room h = tt
 part-fits (pos k) zero room h = tt
 part-fits (pos k) (suc n) room h = (omega arith, h)
 
-pub driven-start : (r : Reader) → r ≡ unread → Driven r [] 0
+pub after-none : (r : Bench) → r ≡ unread → AfterParts r [] 0
 unfolding fedAll joinedParts
-driven-start r e = record { parts = []; reader-is = e; held-is = refl; come-is = refl }
+after-none r e = record { parts = []; bench-is = e; held-is = refl; received-is = refl }
 
 fed-all-more : (parts : List (List ℕ)) (part : List ℕ) (p : Progress) → fedAll (parts ++ (part ∷ [])) p ≡ fed part (fedAll parts p)
 unfolding fedAll
@@ -40,21 +40,21 @@ joined-more (first ∷ parts) part =
     omega (arith, joined-more parts part, length-append first (joinedParts (parts ++ (part ∷ []))), length-append first (joinedParts parts))
 
 -- one part more
-driven-more : (r : Reader) (held part : List ℕ) (come : ℕ) → Driven r held come
-    → Driven (feed r (held ++ part) .reader) (drop (feed r (held ++ part) .used) (held ++ part)) (come + length part)
-driven-more r held part come d =
+after-more : (r : Bench) (held part : List ℕ) (received : ℕ) → AfterParts r held received
+    → AfterParts (feed r (held ++ part) .bench) (drop (feed r (held ++ part) .used) (held ++ part)) (received + length part)
+after-more r held part received d =
     let more = fed-all-more (d .parts) part begun in
-    let is : feed r (held ++ part) ≡ feed (fedAll (d .parts) begun .reader) (fedAll (d .parts) begun .held ++ part) =
-    ap₂ (λ (x : Reader) (l : List ℕ). feed x (l ++ part)) (d .reader-is) (d .held-is) in
+    let is : feed r (held ++ part) ≡ feed (fedAll (d .parts) begun .bench) (fedAll (d .parts) begun .held ++ part) =
+    ap₂ (λ (x : Bench) (l : List ℕ). feed x (l ++ part)) (d .bench-is) (d .held-is) in
     record {
       parts = d .parts ++ (part ∷ []);
-      reader-is = ap (λ (t : Advance). t .reader) is ∙ sym (ap (λ (p : Progress). p .reader) more);
+      bench-is = ap (λ (t : Advance). t .bench) is ∙ sym (ap (λ (p : Progress). p .bench) more);
       held-is =
           ap₂ (λ (t : Advance) (l : List ℕ). drop (t .used) (l ++ part)) is (d .held-is) ∙ sym (ap (λ (p : Progress). p .held) more);
-      come-is = ap (λ (n : ℕ). n + length part) (d .come-is) ∙ sym (joined-more (d .parts) part);
+      received-is = ap (λ (n : ℕ). n + length part) (d .received-is) ∙ sym (joined-more (d .parts) part);
     }
 
-module _ (r : Reader) (filled : ℕ) (input after a b : List ℕ) (f : Fed) (h : filled ≤ length input)
+module _ (r : Bench) (filled : ℕ) (input after a b : List ℕ) (f : Fed) (h : filled ≤ length input)
     (g : Feeds f (take filled input) (feed r (take filled input)) input after a b) where
   abbrev bytes : List ℕ
   bytes = take filled input
@@ -68,32 +68,32 @@ module _ (r : Reader) (filled : ℕ) (input after a b : List ℕ) (f : Fed) (h :
   count : f .held ≡ length rest
   count = g .held .stops ∙ zero-add (length rest)
 
-  pub fed-short : f .reader .refusal ≤ 1 → f .held < longestTable
+  pub fed-short : f .bench .refusal ≤ 1 → f .held < longestTable
   fed-short few =
-      omega (arith, count, settled-short (feed r bytes .reader) rest (feed-settled r bytes) (subst (λ (x : Reader). x .refusal ≤ 1) (g .reader) few))
+      omega (arith, count, settled-short (feed r bytes .bench) rest (feed-settled r bytes) (subst (λ (x : Bench). x .refusal ≤ 1) (g .bench) few))
 
-  pub fed-count : f .reader .events + f .held ≤ r .events + filled
-  fed-count = omega (arith, count, size, feed-count r bytes, ap (λ (x : Reader). x .events) (g .reader))
+  pub fed-count : f .bench .events + f .held ≤ r .events + filled
+  fed-count = omega (arith, count, size, feed-count r bytes, ap (λ (x : Bench). x .events) (g .bench))
 
   pub held-within : f .held ≤ filled
   held-within = omega (arith, count, size, length-drop (feed r bytes .used) bytes)
 
   -- so many bytes were read behind those held, and fed
-  pub driven-fed : (held came come : ℕ) (before : List ℕ) → Driven r (take held before) come → take held input ≡ take held before → filled ≡ held + came
-      → Driven (f .reader) (take (f .held) after) (come + came)
-  driven-fed held came come before d kept l =
+  pub after-fed : (held came received : ℕ) (before : List ℕ) → AfterParts r (take held before) received → take held input ≡ take held before → filled ≡ held + came
+      → AfterParts (f .bench) (take (f .held) after) (received + came)
+  after-fed held came received before d kept l =
       let part : List ℕ = drop held bytes in
       let joined : take held before ++ part ≡ bytes =
       ap (λ (l : List ℕ). l ++ part) (sym kept ∙ sym (take-take held filled input (omega arith))) ∙ take-append-drop held bytes in
-      let there : Driven (feed r bytes .reader) rest (come + length part) =
-      subst (λ (l : List ℕ). Driven (feed r l .reader) (drop (feed r l .used) l) (come + length part)) joined (driven-more r (take held before) part come d) in
+      let there : AfterParts (feed r bytes .bench) rest (received + length part) =
+      subst (λ (l : List ℕ). AfterParts (feed r l .bench) (drop (feed r l .used) l) (received + length part)) joined (after-more r (take held before) part received d) in
       let long : length part ≡ came = omega (arith, length-drop held bytes, size) in
       let front : take (f .held) after ≡ rest = laid-front (g .held) (omega (arith, size, length-drop (feed r bytes .used) bytes)) in
-      subst (λ (n : ℕ). Driven (f .reader) (take (f .held) after) (come + n)) long
-      (subst (λ (x : Reader). Driven x (take (f .held) after) (come + length part)) (sym (g .reader))
-      (subst (λ (l : List ℕ). Driven (feed r bytes .reader) l (come + length part)) (sym front) there))
+      subst (λ (n : ℕ). AfterParts (f .bench) (take (f .held) after) (received + n)) long
+      (subst (λ (x : Bench). AfterParts x (take (f .held) after) (received + length part)) (sym (g .bench))
+      (subst (λ (l : List ℕ). AfterParts (feed r bytes .bench) l (received + length part)) (sym front) there))
 
 -- what is handed back, by its parts
-pub records-is : {r : Recorded} {e : Ended} {come held : ℕ} {reader : Reader} {input : List ℕ} → r ≡ record { ended = e; come = come; reader = reader; held = held }
-    → Driven reader (take held input) come → held ≤ length input → Ends e come reader → Records r input
-records-is {r} {e} {come} {held} {reader} {input} is d h k = subst (λ (x : Recorded). Records x input) (sym is) (record { driven = d; inside = h; ends = k })
+pub records-is : {r : Recorded} {e : Ended} {received held : ℕ} {bench : Bench} {input : List ℕ} → r ≡ record { ended = e; received = received; bench = bench; held = held }
+    → AfterParts bench (take held input) received → held ≤ length input → Ends e received bench → Records r input
+records-is {r} {e} {received} {held} {bench} {input} is d h k = subst (λ (x : Recorded). Records x input) (sym is) (record { after-parts = d; inside = h; ends = k })

@@ -5,9 +5,9 @@ ghost use lib.ListN.{length, take, drop};
 ghost use Rattle.table_bytes.specs.Decided.{longestTable};
 ghost use Rattle.decimals.specs.Laid.{Laid};
 ghost use Rattle.stream.specs.Parts.{feed, Advances};
-ghost use Rattle.recorder.specs.Recording.{partOf, Came, Feeds, Driven, EndsWithoutPart, Records};
+ghost use Rattle.recorder.specs.Recording.{partOf, Came, Feeds, AfterParts, EndsWithoutPart, Records};
 use stream::Advanced;
-use stream::Reader;
+use stream::Bench;
 
 // Room for the bytes that are held and a part: more than the longest table has.
 pub type InputBuffer = [u8; 32768];
@@ -23,11 +23,11 @@ pub enum Ended {
     TooLong,
 }
 
-// How it ended, how many bytes came, the reader behind them, and how many of them are held at the front of the input buffer.
+// How it ended, how many bytes came, the bench behind them, and how many of them are held at the front of the input buffer.
 pub struct Recorded {
     pub ended: Ended,
-    pub come: u64,
-    pub reader: Reader,
+    pub received: u64,
+    pub bench: Bench,
     pub held: usize,
 }
 
@@ -38,9 +38,9 @@ enum Part {
     Bytes(usize),
 }
 
-// What a part did: the reader behind it, how many bytes are held for the next, and the length of the lines that were laid.
+// What a part did: the bench behind it, how many bytes are held for the next, and the length of the lines that were laid.
 struct Fed {
-    reader: Reader,
+    bench: Bench,
     held: usize,
     laid: usize,
 }
@@ -84,25 +84,25 @@ fn read_part(from: i32, most: usize, input: &mut [u8], held: usize) -> Part
 }
 
 // All that the bytes decide, laid in two steps: one for the table, one for the events behind it.
-fn take_steps(reader: Reader, bytes: &[u8], lines: &mut [u8]) -> Advanced
-    requires { ⌜ (90 + 15 * length (now bytes) ≤ length (now lines)) × (reader .events + length (now bytes) + 1 < 2 ^ 64) ⌝ }
-    ensures { λ r. ⌜ Advances r (feed reader (now (bytes .entry))) 90 (now (lines .entry)) (now (lines .exit)) ⌝ }
+fn take_steps(bench: Bench, bytes: &[u8], lines: &mut [u8]) -> Advanced
+    requires { ⌜ (90 + 15 * length (now bytes) ≤ length (now lines)) × (bench .events + length (now bytes) + 1 < 2 ^ 64) ⌝ }
+    ensures { λ r. ⌜ Advances r (feed bench (now (bytes .entry))) 90 (now (lines .entry)) (now (lines .exit)) ⌝ }
 {
-    let first = stream::advance(reader, bytes, lines);
-    let middle = first.reader;
+    let first = stream::advance(bench, bytes, lines);
+    let middle = first.bench;
     let used = first.used;
     let laid = first.laid;
     let second = stream::advance(middle, &bytes[used..], &mut lines[laid..]);
-    let after = second.reader;
+    let after = second.bench;
     Advanced {
-        reader: after,
+        bench: after,
         used: used + second.used,
         laid: laid + second.laid,
     }
 }
 
 // Moves the bytes from one index up to another to the front; answers how many they are.
-fn keep(buf: &mut [u8], from: usize, to: usize) -> usize
+fn move_to_front(buf: &mut [u8], from: usize, to: usize) -> usize
     requires { ⌜ (from ≤ to) × (to ≤ length (now buf)) ⌝ }
     ensures { λ r. ⌜ Laid (now (buf .entry)) (now (buf .exit)) 0 r (to - from) (drop from (take to (now (buf .entry)))) ⌝ }
 {
@@ -117,16 +117,16 @@ fn keep(buf: &mut [u8], from: usize, to: usize) -> usize
 
 // A part has come: the input buffer starts with the bytes that were held and goes on with the part, so many bytes in all. Lays all lines
 // that they decide, and holds the bytes that were not used at the front of the input buffer.
-fn feed(reader: Reader, input: &mut [u8], filled: usize, lines: &mut [u8]) -> Fed
-    requires { ⌜ (filled ≤ length (now input)) × (90 + 15 * filled ≤ length (now lines)) × (reader .events + filled + 1 < 2 ^ 64) ⌝ }
-    ensures { λ r. ⌜ Feeds r (take filled (now (input .entry))) (feed reader (take filled (now (input .entry)))) (now (input .entry)) (now (input .exit)) (now (lines .entry)) (now (lines .exit)) ⌝ }
+fn feed(bench: Bench, input: &mut [u8], filled: usize, lines: &mut [u8]) -> Fed
+    requires { ⌜ (filled ≤ length (now input)) × (90 + 15 * filled ≤ length (now lines)) × (bench .events + filled + 1 < 2 ^ 64) ⌝ }
+    ensures { λ r. ⌜ Feeds r (take filled (now (input .entry))) (feed bench (take filled (now (input .entry)))) (now (input .entry)) (now (input .exit)) (now (lines .entry)) (now (lines .exit)) ⌝ }
 {
-    let advanced = take_steps(reader, &input[..filled], lines);
-    let after = advanced.reader;
+    let advanced = take_steps(bench, &input[..filled], lines);
+    let after = advanced.bench;
     let used = advanced.used;
-    let held = keep(input, used, filled);
+    let held = move_to_front(input, used, filled);
     Fed {
-        reader: after,
+        bench: after,
         held,
         laid: advanced.laid,
     }
@@ -139,37 +139,37 @@ fn write_lines(to: i32, lines: &[u8], n: usize) -> bool
     io::write_all(to, &lines[..n])
 }
 
-// Writes the last line, where the first bytes of the input buffer were not used: those that some parts leave to this reader.
-fn write_last(to: i32, reader: Reader, input: &[u8], held: usize) -> bool
-    requires { ⌜ ((come : ℕ) × Driven reader (take held (now input)) come) × (held ≤ length (now input)) ⌝ }
+// Writes the last line, where the first bytes of the input buffer were not used: those that some parts leave to this bench.
+fn write_last(to: i32, bench: Bench, input: &[u8], held: usize) -> bool
+    requires { ⌜ ((received : ℕ) × AfterParts bench (take held (now input)) received) × (held ≤ length (now input)) ⌝ }
 {
     let mut line = [0; 64];
-    let n = stream::last_line(&mut line, reader, held);
+    let n = stream::last_line(&mut line, bench, held);
     write_lines(to, &line, n)
 }
 
 // How the record ends where no part came: with its last line, or with none where a read failed.
-fn end_record(to: i32, part: Part, reader: Reader, input: &[u8], held: usize) -> Ended
-    requires { ⌜ ((come : ℕ) × Driven reader (take held (now input)) come) × (held ≤ length (now input)) ⌝ }
-    ensures { λ r. ⌜ EndsWithoutPart r reader ⌝ }
+fn end_record(to: i32, part: Part, bench: Bench, input: &[u8], held: usize) -> Ended
+    requires { ⌜ ((received : ℕ) × AfterParts bench (take held (now input)) received) × (held ≤ length (now input)) ⌝ }
+    ensures { λ r. ⌜ EndsWithoutPart r bench ⌝ }
 {
     if let Part::Failed = part {
         return Ended::NotRead;
     }
-    if write_last(to, reader, input, held) {
+    if write_last(to, bench, input, held) {
         return Ended::Whole;
     }
     Ended::NotWritten
 }
 
 // What is handed back, of these parts.
-fn hand_back(ended: Ended, come: u64, reader: Reader, held: usize) -> Recorded
-    ensures { λ r. ⌜ r ≡ record { ended = ended; come = come; reader = reader; held = held } ⌝ }
+fn hand_back(ended: Ended, received: u64, bench: Bench, held: usize) -> Recorded
+    ensures { λ r. ⌜ r ≡ record { ended = ended; received = received; bench = bench; held = held } ⌝ }
 {
     Recorded {
         ended,
-        come,
-        reader,
+        received,
+        bench,
         held,
     }
 }
@@ -179,28 +179,28 @@ fn run(from: i32, to: i32, most: usize, input: &mut [u8], lines: &mut [u8]) -> R
     requires { ⌜ (longestTable ≤ length (now input)) × (length (now input) < 2 ^ 16) × (90 + 15 * length (now input) ≤ length (now lines)) ⌝ }
     ensures { λ r. ⌜ Records r (now (input .exit)) ⌝ }
 {
-    let mut reader = stream::unread();
+    let mut bench = stream::unread();
     let mut held = 0;
-    let mut come: u64 = 0;
-    while come < 18446744073709486080 {
+    let mut received: u64 = 0;
+    while received < 18446744073709486080 {
         let part = read_part(from, most, input, held);
         let Part::Bytes(count) = part else {
-            let ended = end_record(to, part, reader, input, held);
-            return hand_back(ended, come, reader, held);
+            let ended = end_record(to, part, bench, input, held);
+            return hand_back(ended, received, bench, held);
         };
-        come += count as u64;
-        let fed = feed(reader, input, held + count, lines);
-        let next = fed.reader;
-        reader = next;
+        received += count as u64;
+        let fed = feed(bench, input, held + count, lines);
+        let next = fed.bench;
+        bench = next;
         held = fed.held;
         if !write_lines(to, lines, fed.laid) {
-            return hand_back(Ended::NotWritten, come, reader, held);
+            return hand_back(Ended::NotWritten, received, bench, held);
         }
-        if reader.refusal > 1 {
-            return hand_back(Ended::Whole, come, reader, held);
+        if bench.refusal > 1 {
+            return hand_back(Ended::Whole, received, bench, held);
         }
     }
-    hand_back(Ended::TooLong, come, reader, held)
+    hand_back(Ended::TooLong, received, bench, held)
 }
 
 // Says in one line why the record is not whole.
@@ -221,7 +221,7 @@ fn report(errors: i32, ended: Ended) {
 
 // Writes the record of what comes on `from`, at most so many bytes at a time (and at least one), to `to`: after each read the lines that
 // it decides, behind the last the last line. Where a read or a write fails it stops at once and says so on `errors`. What it hands back are
-// the reader and the bytes held, at the front of the input buffer, behind the parts that came.
+// the bench and the bytes held, at the front of the input buffer, behind the parts that came.
 pub fn write_record(
     from: i32,
     to: i32,

@@ -7,7 +7,7 @@ use native.Mathlib.Omega.{arith}
 use borrow.Author.Tests.{eq-eqb, ne-eqb}
 use Rattle.decimals.specs.Laid.{Laid}
 use Rattle.lines.specs.Lines.{headerLine, endLine, shortLine, refusedLine}
-use Rattle.stream.specs.declared.Reader.{Reader}
+use Rattle.stream.specs.declared.Bench.{Bench}
 use Rattle.stream.specs.declared.Advanced.{Advanced}
 use Rattle.stream.specs.Parts.{Advance, openingLine, unchanged, lastLineOf, Advances}
 
@@ -21,7 +21,7 @@ module _ (refusal jobs processors objects : ℕ) where
   pub opening-refused : (refusal ≡ 0 → ⊥) → (refusal ≡ 1 → ⊥) → refusedLine refusal ≡ openingLine refusal jobs processors objects
   opening-refused d f = simp (ne-eqb refusal 0 d, ne-eqb refusal 1 f)
 
-module _ (r : Reader) (left : ℕ) where
+module _ (r : Bench) (left : ℕ) where
   pub last-cut : r .refusal ≡ 1 → refusedLine 1 ≡ lastLineOf r left
   unfolding lastLineOf
   last-cut e = simp (eq-eqb (r .refusal) 1 e)
@@ -42,8 +42,8 @@ pub nothing-laid : (b : List ℕ) (room : ℕ) → Laid b b 0 0 room []
 nothing-laid b room = record { stored = refl; stops = refl; within = omega arith }
 
 -- a step that does nothing
-pub nothing-done : (r : Reader) (b : List ℕ) → Advances (record { reader = r; used = 0; laid = 0 }) (unchanged r) 45 b b
-nothing-done r b = record { reader = refl; used = refl; laid = nothing-laid b 45 }
+pub nothing-done : (r : Bench) (b : List ℕ) → Advances (record { bench = r; used = 0; laid = 0 }) (unchanged r) 45 b b
+nothing-done r b = record { bench = refl; used = refl; laid = nothing-laid b 45 }
 
 -- another name of what a step does
 pub advances-is : {r : Advanced} {t u : Advance} {room : ℕ} {a b : List ℕ} → Advances r t room a b → u ≡ t → Advances r u room a b

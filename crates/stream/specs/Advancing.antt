@@ -1,4 +1,4 @@
--- A step by where the reader is (`advance-cases`), what it uses, and the law that all rests on: the lines that it lays, and then what is
+-- A step by where the bench is (`advance-cases`), what it uses, and the law that all rests on: the lines that it lays, and then what is
 -- left to be laid behind it, are what was left before it (`advance-lays`).
 -- Assumes nothing.
 use Prim.Native.Nat.{ℕ, zero, suc, _+_, _*_, _/_, _%_, _≤_, min}
@@ -22,12 +22,12 @@ use Rattle.table.specs.Decided.{table-decided}
 use Rattle.lines.specs.Lines.{headerLine, endLine, shortLine}
 use Rattle.record.specs.Record.{eventLines, stateAfter, lastLine, recordBehind, recordOf}
 use Rattle.record.specs.RecordLaws.{event-lines-join, used-within}
-use Rattle.stream.specs.declared.Reader.{Reader}
+use Rattle.stream.specs.declared.Bench.{Bench}
 use Rattle.stream.specs.Parts.{Advance, opened, opening, answering, unchanged, advance}
 
--- ---- a step by where the reader is
+-- ---- a step by where the bench is
 
-module _ (most : ℕ) (r : Reader) (bytes : List ℕ) where
+module _ (most : ℕ) (r : Bench) (bytes : List ℕ) where
   pub advance-none : (most ≡ 0) ⊎ (2 ≤ r .refusal) → advance most r bytes ≡ unchanged r
   unfolding advance
   advance-none (inl e) = simp (eq-eqb most 0 e)
@@ -78,20 +78,20 @@ table-within bytes = go (readTable bytes .refusal) refl
     go (suc v) e = omega (arith, refused-used bytes (λ q. omega arith))
 
 -- a step uses no more than there is
-pub advance-within : (most : ℕ) (r : Reader) (bytes : List ℕ) → advance most r bytes .used ≤ length bytes
+pub advance-within : (most : ℕ) (r : Bench) (bytes : List ℕ) → advance most r bytes .used ≤ length bytes
 advance-within most r bytes =
     advance-cases most r bytes (λ (t : Advance). t .used ≤ length bytes) (λ e. omega arith) (λ m e. table-within bytes) (λ m e. omega arith)
 
 -- it answers no more events than it uses bytes
-pub advance-count : (most : ℕ) (r : Reader) (bytes : List ℕ) → advance most r bytes .reader .events + length (drop (advance most r bytes .used) bytes) ≤ r .events + length bytes
+pub advance-count : (most : ℕ) (r : Bench) (bytes : List ℕ) → advance most r bytes .bench .events + length (drop (advance most r bytes .used) bytes) ≤ r .events + length bytes
 advance-count most r bytes =
-    advance-cases most r bytes (λ (t : Advance). t .reader .events + length (drop (t .used) bytes) ≤ r .events + length bytes)
+    advance-cases most r bytes (λ (t : Advance). t .bench .events + length (drop (t .used) bytes) ≤ r .events + length bytes)
     (λ e. omega arith)
     (λ m e. omega (arith, length-drop (readTable bytes .used) bytes))
     (λ m e. omega (arith, length-drop (3 * min most (length bytes / 3)) bytes))
 
 -- room for all events is room enough
-pub advance-enough : (m n : ℕ) (r : Reader) (bytes : List ℕ) → 1 ≤ m → 1 ≤ n → length bytes / 3 ≤ m → length bytes / 3 ≤ n → advance m r bytes ≡ advance n r bytes
+pub advance-enough : (m n : ℕ) (r : Bench) (bytes : List ℕ) → 1 ≤ m → 1 ≤ n → length bytes / 3 ≤ m → length bytes / 3 ≤ n → advance m r bytes ≡ advance n r bytes
 advance-enough m n r bytes a b p q =
     let same : min n (length bytes / 3) ≡ min m (length bytes / 3) = omega arith in
     advance-cases n r bytes (λ (t : Advance). advance m r bytes ≡ t)
@@ -109,22 +109,22 @@ advance-enough m n r bytes a b p q =
 abbrev pub lastBehind : ℕ → ℕ → List ℕ
 lastBehind n size = if eqb (size % 3) 0 then endLine (n + size / 3) else shortLine
 
-unfoldable pub left : Reader → List ℕ → List ℕ
+unfoldable pub left : Bench → List ℕ → List ℕ
 left r bytes =
     if eqb (r .refusal) 1 then recordOf bytes else
     if eqb (r .refusal) 0 then eventLines (r .state) (r .events) bytes ++ lastBehind (r .events) (length bytes) else
     []
 
-pub left-open : (r : Reader) (bytes : List ℕ) → r .refusal ≡ 1 → left r bytes ≡ recordOf bytes
+pub left-open : (r : Bench) (bytes : List ℕ) → r .refusal ≡ 1 → left r bytes ≡ recordOf bytes
 unfolding left
 left-open r bytes e = simp (eq-eqb (r .refusal) 1 e)
 
-pub left-events : (r : Reader) (bytes : List ℕ) → r .refusal ≡ 0
+pub left-events : (r : Bench) (bytes : List ℕ) → r .refusal ≡ 0
     → left r bytes ≡ eventLines (r .state) (r .events) bytes ++ lastBehind (r .events) (length bytes)
 unfolding left
 left-events r bytes e = simp (ne-eqb (r .refusal) 1 (λ q. omega arith), eq-eqb (r .refusal) 0 e)
 
-pub left-refused : (r : Reader) (bytes : List ℕ) → 2 ≤ r .refusal → left r bytes ≡ []
+pub left-refused : (r : Bench) (bytes : List ℕ) → 2 ≤ r .refusal → left r bytes ≡ []
 unfolding left
 left-refused r bytes h = simp (ne-eqb (r .refusal) 1 (λ q. omega arith), ne-eqb (r .refusal) 0 (λ q. omega arith))
 
@@ -132,7 +132,7 @@ left-refused r bytes h = simp (ne-eqb (r .refusal) 1 (λ q. omega arith), ne-eqb
 
 -- what is laid by a step, and then what is left behind it with more bytes to come
 abbrev Lays : Advance → List ℕ → List ℕ → List ℕ → Type 0
-Lays t bytes more all = t .lines ++ left (t .reader) (drop (t .used) bytes ++ more) ≡ all
+Lays t bytes more all = t .lines ++ left (t .bench) (drop (t .used) bytes ++ more) ≡ all
 
 module _ (bytes more : List ℕ) where
   open-cut : readTable bytes .refusal ≡ 1 → Lays (opening (readTable bytes)) bytes more (recordOf (bytes ++ more))
@@ -177,7 +177,7 @@ module _ (bytes more : List ℕ) where
       go (suc zero) e = open-cut e
       go (suc (suc v)) e = open-refused (omega arith)
 
-  events-lay : (r : Reader) (n : ℕ) → 3 * n ≤ length bytes
+  events-lay : (r : Bench) (n : ℕ) → 3 * n ≤ length bytes
       → Lays (answering n r bytes) bytes more (eventLines (r .state) (r .events) (bytes ++ more) ++ lastBehind (r .events) (length (bytes ++ more)))
   events-lay r n h =
       let front : List ℕ = take (3 * n) bytes in
@@ -188,13 +188,13 @@ module _ (bytes more : List ℕ) where
       sym (ap length cut) ∙ length-append front rest ∙ ap (λ (k : ℕ). k + length rest) (length-take-le (3 * n) bytes h) in
       let parity : length rest % 3 ≡ length (bytes ++ more) % 3 = omega arith in
       let count : r .events + n + length rest / 3 ≡ r .events + length (bytes ++ more) / 3 = omega arith in
-      ap (λ (l : List ℕ). eventLines (r .state) (r .events) front ++ l) (left-events (answering n r bytes .reader) rest refl)
+      ap (λ (l : List ℕ). eventLines (r .state) (r .events) front ++ l) (left-events (answering n r bytes .bench) rest refl)
       ∙ sym (append-assoc (eventLines (r .state) (r .events) front) (eventLines next (r .events + n) rest) (lastBehind (r .events + n) (length rest)))
       ∙ ap (λ (l : List ℕ). l ++ lastBehind (r .events + n) (length rest)) (sym (event-lines-join n (r .state) (r .events) front rest (length-take-le (3 * n) bytes h)))
       ∙ ap₂ (λ (l : List ℕ) (k : ℕ). eventLines (r .state) (r .events) l ++ (if eqb (length rest % 3) 0 then endLine k else shortLine)) cut count
       ∙ ap (λ (k : ℕ). eventLines (r .state) (r .events) (bytes ++ more) ++ (if eqb k 0 then endLine (r .events + length (bytes ++ more) / 3) else shortLine)) parity
 
-  pub advance-lays : (most : ℕ) (r : Reader) → Lays (advance most r bytes) bytes more (left r (bytes ++ more))
+  pub advance-lays : (most : ℕ) (r : Bench) → Lays (advance most r bytes) bytes more (left r (bytes ++ more))
   advance-lays most r =
       advance-cases most r bytes (λ (t : Advance). Lays t bytes more (left r (bytes ++ more)))
       (λ e. refl)

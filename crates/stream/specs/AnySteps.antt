@@ -18,12 +18,12 @@ pub data Move : Type 0 where
 
 abbrev pub stepped : ℕ → Progress → Progress
 stepped most p =
-    let t : Advance = advance most (p .reader) (p .held) in
-    record { laid = p .laid ++ t .lines; reader = t .reader; held = drop (t .used) (p .held) }
+    let t : Advance = advance most (p .bench) (p .held) in
+    record { laid = p .laid ++ t .lines; bench = t .bench; held = drop (t .used) (p .held) }
 
 unfoldable pub moved : List Move → Progress → Progress
 moved [] p = p
-moved (come part ∷ moves) p = moved moves (record { laid = p .laid; reader = p .reader; held = p .held ++ part })
+moved (come part ∷ moves) p = moved moves (record { laid = p .laid; bench = p .bench; held = p .held ++ part })
 moved (lay most ∷ moves) p = moved moves (stepped most p)
 
 -- the whole input
@@ -36,22 +36,22 @@ moved-total : (moves : List Move) (p : Progress) → total (moved moves p) [] �
 unfolding moved inputOf
 moved-total [] p = refl
 moved-total (come part ∷ moves) p =
-    moved-total moves (record { laid = p .laid; reader = p .reader; held = p .held ++ part })
-    ∙ ap (λ (l : List ℕ). p .laid ++ left (p .reader) l) (append-assoc (p .held) part (inputOf moves))
+    moved-total moves (record { laid = p .laid; bench = p .bench; held = p .held ++ part })
+    ∙ ap (λ (l : List ℕ). p .laid ++ left (p .bench) l) (append-assoc (p .held) part (inputOf moves))
 moved-total (lay most ∷ moves) p =
-    let t : Advance = advance most (p .reader) (p .held) in
+    let t : Advance = advance most (p .bench) (p .held) in
     moved-total moves (stepped most p)
-    ∙ append-assoc (p .laid) (t .lines) (left (t .reader) (drop (t .used) (p .held) ++ inputOf moves))
-    ∙ ap (λ (l : List ℕ). p .laid ++ l) (advance-lays (p .held) (inputOf moves) most (p .reader))
+    ∙ append-assoc (p .laid) (t .lines) (left (t .bench) (drop (t .used) (p .held) ++ inputOf moves))
+    ∙ ap (λ (l : List ℕ). p .laid ++ l) (advance-lays (p .held) (inputOf moves) most (p .bench))
 
 -- some moves, and then a step with room for a line that uses nothing
-pub record-of-moves : (moves : List Move) (most : ℕ) → 1 ≤ most → advance most (moved moves begun .reader) (moved moves begun .held) .used ≡ 0
+pub record-of-moves : (moves : List Move) (most : ℕ) → 1 ≤ most → advance most (moved moves begun .bench) (moved moves begun .held) .used ≡ 0
     → closed (stepped most (moved moves begun)) ≡ recordOf (inputOf moves)
 record-of-moves moves most m none =
     let p : Progress = moved moves begun in
-    let t : Advance = advance most (p .reader) (p .held) in
-    settled-closed (stepped most p) (subst (λ (n : ℕ). Settled (t .reader) (drop n (p .held))) (sym none) (unused-settled most (p .reader) (p .held) m none))
-    ∙ append-assoc (p .laid) (t .lines) (left (t .reader) (drop (t .used) (p .held) ++ []))
-    ∙ ap (λ (l : List ℕ). p .laid ++ l) (advance-lays (p .held) [] most (p .reader))
+    let t : Advance = advance most (p .bench) (p .held) in
+    settled-closed (stepped most p) (subst (λ (n : ℕ). Settled (t .bench) (drop n (p .held))) (sym none) (unused-settled most (p .bench) (p .held) m none))
+    ∙ append-assoc (p .laid) (t .lines) (left (t .bench) (drop (t .used) (p .held) ++ []))
+    ∙ ap (λ (l : List ℕ). p .laid ++ l) (advance-lays (p .held) [] most (p .bench))
     ∙ moved-total moves begun
     ∙ left-open unread (inputOf moves) refl

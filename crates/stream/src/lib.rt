@@ -16,15 +16,15 @@ use state::State;
 
 // How far the input is read. The refusal is 1 as long as the table may still be incomplete, 0 behind a table that was accepted, its
 // number behind one that was refused. Then how many events were answered, and the state behind them.
-pub struct Reader {
+pub struct Bench {
     pub refusal: u8,
     pub events: u64,
     pub state: State,
 }
 
-// What a step did: the reader behind it, how many of the bytes it used, and the length of the lines that it laid.
+// What a step did: the bench behind it, how many of the bytes it used, and the length of the lines that it laid.
 pub struct Advanced {
-    pub reader: Reader,
+    pub bench: Bench,
     pub used: usize,
     pub laid: usize,
 }
@@ -71,24 +71,24 @@ fn open_table(bytes: &[u8], lines: &mut [u8]) -> Advanced
         state.processors,
         state.objects,
     );
-    let reader = Reader {
+    let bench = Bench {
         refusal: read.refusal,
         events: 0,
         state,
     };
     Advanced {
-        reader,
+        bench,
         used: read.used,
         laid,
     }
 }
 
 // A step behind an accepted table: the first `count` events.
-fn answer(reader: Reader, count: usize, bytes: &[u8], lines: &mut [u8]) -> Advanced
-    requires { ⌜ (3 * count ≤ length (now bytes)) × (45 * count ≤ length (now lines)) × (reader .events + count < 2 ^ 64) ⌝ }
-    ensures { λ r. ⌜ Advances r (answering count reader (now (bytes .entry))) 45 (now (lines .entry)) (now (lines .exit)) ⌝ }
+fn answer(bench: Bench, count: usize, bytes: &[u8], lines: &mut [u8]) -> Advanced
+    requires { ⌜ (3 * count ≤ length (now bytes)) × (45 * count ≤ length (now lines)) × (bench .events + count < 2 ^ 64) ⌝ }
+    ensures { λ r. ⌜ Advances r (answering count bench (now (bytes .entry))) 45 (now (lines .entry)) (now (lines .exit)) ⌝ }
 {
-    let state = reader.state;
+    let state = bench.state;
     let processor_of = state.processor_of;
     let may_read = state.may_read;
     let may_write = state.may_write;
@@ -111,7 +111,7 @@ fn answer(reader: Reader, count: usize, bytes: &[u8], lines: &mut [u8]) -> Advan
         &mut writers,
         &mut request,
         lines,
-        reader.events,
+        bench.events,
         &bytes[..used],
     );
     let next = State {
@@ -127,20 +127,20 @@ fn answer(reader: Reader, count: usize, bytes: &[u8], lines: &mut [u8]) -> Advan
         writers,
         request,
     };
-    let after = Reader {
+    let after = Bench {
         refusal: 0,
-        events: reader.events + count as u64,
+        events: bench.events + count as u64,
         state: next,
     };
     Advanced {
-        reader: after,
+        bench: after,
         used,
         laid,
     }
 }
 
-// The reader before the first byte.
-pub fn unread() -> Reader
+// The bench before the first byte.
+pub fn unread() -> Bench
     ensures { λ r. ⌜ r ≡ unread ⌝ }
 {
     let state = State {
@@ -156,7 +156,7 @@ pub fn unread() -> Reader
         writers: [0; 128],
         request: [0; 64],
     };
-    Reader {
+    Bench {
         refusal: 1,
         events: 0,
         state,
@@ -166,47 +166,47 @@ pub fn unread() -> Reader
 // A step over the bytes that have come and were not used yet: it lays the lines that they decide, as many as there is room for, at the
 // front of the lent buffer. A step that had room for a line and used no byte is the last until more bytes come: the table or an event is
 // cut, or the table is refused.
-pub fn advance(reader: Reader, bytes: &[u8], lines: &mut [u8]) -> Advanced
-    ensures { λ r. ⌜ Advances r (advance (mostLines (length (now (lines .entry))) reader) reader (now (bytes .entry))) 45 (now (lines .entry)) (now (lines .exit)) ⌝ }
+pub fn advance(bench: Bench, bytes: &[u8], lines: &mut [u8]) -> Advanced
+    ensures { λ r. ⌜ Advances r (advance (mostLines (length (now (lines .entry))) bench) bench (now (bytes .entry))) 45 (now (lines .entry)) (now (lines .exit)) ⌝ }
 {
-    let most = most_lines(lines.len(), reader.events);
+    let most = most_lines(lines.len(), bench.events);
     if most != 0 {
-        if reader.refusal == 1 {
+        if bench.refusal == 1 {
             return open_table(bytes, lines);
         }
-        if reader.refusal == 0 {
+        if bench.refusal == 0 {
             let count = least(most, bytes.len() / 3);
-            return answer(reader, count, bytes, lines);
+            return answer(bench, count, bytes, lines);
         }
     }
     Advanced {
-        reader,
+        bench,
         used: 0,
         laid: 0,
     }
 }
 
 // Lays the last line at the front. Answers its length.
-fn lay_last(lines: &mut [u8], reader: Reader, left: usize) -> usize
+fn lay_last(lines: &mut [u8], bench: Bench, left: usize) -> usize
     requires { ⌜ 45 ≤ length (now lines) ⌝ }
-    ensures { λ r. ⌜ Laid (now (lines .entry)) (now (lines .exit)) 0 r 45 (lastLineOf reader left) ⌝ }
+    ensures { λ r. ⌜ Laid (now (lines .entry)) (now (lines .exit)) 0 r 45 (lastLineOf bench left) ⌝ }
 {
-    if reader.refusal == 1 {
+    if bench.refusal == 1 {
         return lay_refused(lines, 1);
     }
-    if reader.refusal != 0 {
+    if bench.refusal != 0 {
         return 0;
     }
     if left == 0 {
-        return lay_end(lines, reader.events);
+        return lay_end(lines, bench.events);
     }
     lay_short(lines)
 }
 
 // The last line, where the input has ended and so many bytes were not used, at the front of the lent buffer; none behind a table that was
 // refused, whose line is laid. Answers its length.
-pub fn last_line(buf: &mut LineBuffer, reader: Reader, left: usize) -> usize
-    ensures { λ r. ⌜ LineLaid (lastLineOf reader left) (now (buf .entry)) (now (buf .exit)) r ⌝ }
+pub fn last_line(buf: &mut LineBuffer, bench: Bench, left: usize) -> usize
+    ensures { λ r. ⌜ LineLaid (lastLineOf bench left) (now (buf .entry)) (now (buf .exit)) r ⌝ }
 {
-    lay_last(buf, reader, left)
+    lay_last(buf, bench, left)
 }

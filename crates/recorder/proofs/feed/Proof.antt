@@ -25,13 +25,13 @@ take-steps-requires c κs =
     let size = length-take-le (c .before .before .before .before .args .filled) (now (c .before .before .before .before .args .input)) (p .0) in
     (omega (arith, size, p .1), omega (arith, size, p .2))
 
-keep-requires : tie.Need-keep-requires
-keep-requires c κs =
+move-to-front-requires : tie.Need-move-to-front-requires
+move-to-front-requires c κs =
     let a = c .before .before .before .before .before .before .before .before .before .args in
     let p = c .before .before .before .before .before .before .before .before .before .pre in
     let bytes : List ℕ = take (a .filled) (now (a .input)) in
     let size : length bytes ≡ a .filled = length-take-le (a .filled) (now (a .input)) (p .0) in
-    let w = fed-within (a .reader) bytes _ _ _ (c .before .before .before .before .take-steps .ensures) in
+    let w = fed-within (a .bench) bytes _ _ _ (c .before .before .before .before .take-steps .ensures) in
     (omega (arith, w, size), p .0)
 
 same-length : tie.Need-same-length
@@ -47,10 +47,10 @@ returns c =
     let bytes : List ℕ = take (a .filled) (now (a .input)) in
     let size : length bytes ≡ a .filled = length-take-le (a .filled) (now (a .input)) (p .0) in
     let t = c .before .before .before .before .before .before .before .take-steps .ensures in
-    let w = fed-within (a .reader) bytes _ _ _ t in
+    let w = fed-within (a .bench) bytes _ _ _ t in
     record {
-      reader = t .reader;
-      held = laid-is (c .before .before .keep .ensures) (ap (λ (n : ℕ). drop n bytes) (t .used)) (omega (arith, size));
+      bench = t .bench;
+      held = laid-is (c .before .before .move-to-front .ensures) (ap (λ (n : ℕ). drop n bytes) (t .used)) (omega (arith, size));
       laid = laid-is (t .laid) refl (omega (arith, t .used, w));
     }
 
@@ -61,7 +61,7 @@ feed-spec =
     slice-reshare-prefix-take-steps
     slice-aggregate-take-steps
     take-steps-requires
-    keep-requires
+    move-to-front-requires
     same-length
     same-length-2
     returns)

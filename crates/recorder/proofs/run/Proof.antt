@@ -1,4 +1,4 @@
--- `recorder::run` meets its contract. The loop's invariant: the reader and the bytes held are as the parts that came leave them, the bytes
+-- `recorder::run` meets its contract. The loop's invariant: the bench and the bytes held are as the parts that came leave them, the bytes
 -- are fewer than a table has, so that there is room for more, and the events and the bytes are no more than have come.
 -- It ends because what may still come falls. Assumes nothing.
 use mathlib.Core.Path.{_≡_, refl, sym, ap, subst}
@@ -10,28 +10,28 @@ use lib.ListN.{length, take}
 use lib.Seq.{length-take-le}
 use Rattle.table_bytes.specs.Decided.{longestTable}
 use Rattle.decimals.specs.Laid.{laid-length}
-use Rattle.stream.specs.declared.Reader.{Reader}
+use Rattle.stream.specs.declared.Bench.{Bench}
 use Rattle.recorder.specs.declared.Part.{Part}
-use Rattle.recorder.specs.Recording.{Fits, Driven, mostBytes}
-use Rattle.recorder.specs.RecordingLaws.{driven-start, driven-fed, fed-short, fed-count, held-within, records-is}
+use Rattle.recorder.specs.Recording.{Fits, AfterParts, mostBytes}
+use Rattle.recorder.specs.RecordingLaws.{after-none, after-fed, fed-short, fed-count, held-within, records-is}
 use borrow.Author.Needs.{needs}
 use Rattle.recorder.proofs.run.Statement.{statement}
 use Rattle.recorder.proofs.run.Tie as tie
 
 abbrev Inv-loop : tie.InvT-loop
-Inv-loop from to most input₀ lines₀ reader₀ held₀ come₀ input lines reader held come =
-    (held < longestTable) × (reader .events + held ≤ come) × (length input ≡ length input₀) × (length lines ≡ length lines₀) × Driven reader (take held input) come
+Inv-loop from to most input₀ lines₀ reader₀ held₀ come₀ input lines bench held received =
+    (held < longestTable) × (bench .events + held ≤ received) × (length input ≡ length input₀) × (length lines ≡ length lines₀) × AfterParts bench (take held input) received
 
 abbrev μ-loop : tie.MeasureT-loop
-μ-loop from to most input₀ lines₀ reader₀ held₀ come₀ input lines reader held come = mostBytes - come
+μ-loop from to most input₀ lines₀ reader₀ held₀ come₀ input lines bench held received = mostBytes - received
 
 unread-requires : tie.Need-unread-requires Inv-loop μ-loop
 unread-requires c κs = search needs
 
 loop-holds : tie.Need-loop-holds Inv-loop μ-loop
 loop-holds c =
-    let e = ap (λ (r : Reader). r .events) (c .unread .ensures) in
-    (omega arith, omega (arith, e), refl, refl, driven-start _ (c .unread .ensures))
+    let e = ap (λ (r : Bench). r .events) (c .unread .ensures) in
+    (omega arith, omega (arith, e), refl, refl, after-none _ (c .unread .ensures))
 
 read-part-requires : tie.Need-read-part-requires Inv-loop μ-loop
 read-part-requires c κs = search needs
@@ -41,7 +41,7 @@ enum-known-part c = search needs
 
 end-record-requires : tie.Need-end-record-requires Inv-loop μ-loop
 end-record-requires c κs = (
-  (c .before .before .before .before .before .before .before .loop .come, subst (λ (l : List ℕ). Driven (c .before .before .before .before .before .before .before .loop .reader) l (c .before .before .before .before .before .before .before .loop .come)) (sym (c .before .before .before .before .read-part .ensures .kept)) (c .before .before .before .before .before .before .before .loop .inv .4)),
+  (c .before .before .before .before .before .before .before .loop .received, subst (λ (l : List ℕ). AfterParts (c .before .before .before .before .before .before .before .loop .bench) l (c .before .before .before .before .before .before .before .loop .received)) (sym (c .before .before .before .before .read-part .ensures .kept)) (c .before .before .before .before .before .before .before .loop .inv .4)),
   omega (arith, c .before .before .before .before .before .before .before .loop .inv, c .before .before .before .before .read-part .ensures .size, c .before .before .before .before .before .before .before .before .before .before .before .pre),
 )
 
@@ -56,11 +56,11 @@ same-length-2 c = search needs
 
 returns : tie.Need-returns Inv-loop μ-loop
 returns c =
-    records-is (c .hand-back .ensures) (subst (λ (l : List ℕ). Driven (c .before .before .before .before .before .before .before .before .before .loop .reader) l (c .before .before .before .before .before .before .before .before .before .loop .come)) (sym (c .before .before .before .before .before .before .read-part .ensures .kept)) (c .before .before .before .before .before .before .before .before .before .loop .inv .4))
-    (omega (arith, c .before .before .before .before .before .before .before .before .before .loop .inv, c .before .before .before .before .before .before .read-part .ensures .size, c .before .before .before .before .before .before .before .before .before .before .before .before .before .pre)) (c .before .end-record .ensures (c .before .before .before .before .before .before .before .before .before .loop .come) (c .before .before .before .before .before .before .before .before .loop-test .taken))
+    records-is (c .hand-back .ensures) (subst (λ (l : List ℕ). AfterParts (c .before .before .before .before .before .before .before .before .before .loop .bench) l (c .before .before .before .before .before .before .before .before .before .loop .received)) (sym (c .before .before .before .before .before .before .read-part .ensures .kept)) (c .before .before .before .before .before .before .before .before .before .loop .inv .4))
+    (omega (arith, c .before .before .before .before .before .before .before .before .before .loop .inv, c .before .before .before .before .before .before .read-part .ensures .size, c .before .before .before .before .before .before .before .before .before .before .before .before .before .pre)) (c .before .end-record .ensures (c .before .before .before .before .before .before .before .before .before .loop .received) (c .before .before .before .before .before .before .before .before .loop-test .taken))
 
-add-come : tie.Need-add-come Inv-loop μ-loop
-add-come c =
+add-received : tie.Need-add-received Inv-loop μ-loop
+add-received c =
     let came = c .before .before .before .before .before .read-part .ensures in
     let fits = subst (λ (p : Part). Fits p (came .room)) (c .before .part .given .1) (came .fits) in
     omega (arith, fits, came .inside, c .before .before .before .before .before .before .before .before .loop .inv, c .before .before .before .before .before .before .before .before .before .before .before .before .pre)
@@ -108,8 +108,8 @@ returns-2 c =
     let filled : ℕ = c .before .before .before .before .before .before .before .before .before .before .before .before .before .before .before .before .before .before .before .before .loop .held + count in
     let input : List ℕ = c .before .before .before .before .before .before .before .before .before .before .before .before .before .before .before .before .before .read-part .last .1 .1 .0 in
     let inside : filled ≤ length input = omega (arith, fits, came .inside, came .size) in
-    records-is (c .hand-back2 .ensures) (driven-fed (c .before .before .before .before .before .before .before .before .before .before .before .before .before .before .before .before .before .before .before .before .loop .reader) filled input _ _ _ (c .before .before .before .before .before .before .before .before .before .feed .result) inside (c .before .before .before .before .before .before .before .before .before .feed .ensures) (c .before .before .before .before .before .before .before .before .before .before .before .before .before .before .before .before .before .before .before .before .loop .held) count (c .before .before .before .before .before .before .before .before .before .before .before .before .before .before .before .before .before .before .before .before .loop .come) (c .before .before .before .before .before .before .before .before .before .before .before .before .before .before .before .before .before .before .before .before .loop .input) (c .before .before .before .before .before .before .before .before .before .before .before .before .before .before .before .before .before .before .before .before .loop .inv .4) (came .kept) refl)
-    (omega (arith, held-within (c .before .before .before .before .before .before .before .before .before .before .before .before .before .before .before .before .before .before .before .before .loop .reader) filled input _ _ _ (c .before .before .before .before .before .before .before .before .before .feed .result) inside (c .before .before .before .before .before .before .before .before .before .feed .ensures), inside, laid-length (c .before .before .before .before .before .before .before .before .before .feed .ensures .held))) tt
+    records-is (c .hand-back2 .ensures) (after-fed (c .before .before .before .before .before .before .before .before .before .before .before .before .before .before .before .before .before .before .before .before .loop .bench) filled input _ _ _ (c .before .before .before .before .before .before .before .before .before .feed .result) inside (c .before .before .before .before .before .before .before .before .before .feed .ensures) (c .before .before .before .before .before .before .before .before .before .before .before .before .before .before .before .before .before .before .before .before .loop .held) count (c .before .before .before .before .before .before .before .before .before .before .before .before .before .before .before .before .before .before .before .before .loop .received) (c .before .before .before .before .before .before .before .before .before .before .before .before .before .before .before .before .before .before .before .before .loop .input) (c .before .before .before .before .before .before .before .before .before .before .before .before .before .before .before .before .before .before .before .before .loop .inv .4) (came .kept) refl)
+    (omega (arith, held-within (c .before .before .before .before .before .before .before .before .before .before .before .before .before .before .before .before .before .before .before .before .loop .bench) filled input _ _ _ (c .before .before .before .before .before .before .before .before .before .feed .result) inside (c .before .before .before .before .before .before .before .before .before .feed .ensures), inside, laid-length (c .before .before .before .before .before .before .before .before .before .feed .ensures .held))) tt
 
 hand-back-requires-3 : tie.Need-hand-back-requires-3 Inv-loop μ-loop
 hand-back-requires-3 c κs = search needs
@@ -130,8 +130,8 @@ returns-3 c =
     let filled : ℕ = c .before .before .before .before .before .before .before .before .before .before .before .before .before .before .before .before .before .before .before .before .before .before .loop .held + count in
     let input : List ℕ = c .before .before .before .before .before .before .before .before .before .before .before .before .before .before .before .before .before .before .before .read-part .last .1 .1 .0 in
     let inside : filled ≤ length input = omega (arith, fits, came .inside, came .size) in
-    records-is (c .hand-back3 .ensures) (driven-fed (c .before .before .before .before .before .before .before .before .before .before .before .before .before .before .before .before .before .before .before .before .before .before .loop .reader) filled input _ _ _ (c .before .before .before .before .before .before .before .before .before .before .before .feed .result) inside (c .before .before .before .before .before .before .before .before .before .before .before .feed .ensures) (c .before .before .before .before .before .before .before .before .before .before .before .before .before .before .before .before .before .before .before .before .before .before .loop .held) count (c .before .before .before .before .before .before .before .before .before .before .before .before .before .before .before .before .before .before .before .before .before .before .loop .come) (c .before .before .before .before .before .before .before .before .before .before .before .before .before .before .before .before .before .before .before .before .before .before .loop .input) (c .before .before .before .before .before .before .before .before .before .before .before .before .before .before .before .before .before .before .before .before .before .before .loop .inv .4) (came .kept) refl)
-    (omega (arith, held-within (c .before .before .before .before .before .before .before .before .before .before .before .before .before .before .before .before .before .before .before .before .before .before .loop .reader) filled input _ _ _ (c .before .before .before .before .before .before .before .before .before .before .before .feed .result) inside (c .before .before .before .before .before .before .before .before .before .before .before .feed .ensures), inside, laid-length (c .before .before .before .before .before .before .before .before .before .before .before .feed .ensures .held))) (inr (c .before .if2 .taken))
+    records-is (c .hand-back3 .ensures) (after-fed (c .before .before .before .before .before .before .before .before .before .before .before .before .before .before .before .before .before .before .before .before .before .before .loop .bench) filled input _ _ _ (c .before .before .before .before .before .before .before .before .before .before .before .feed .result) inside (c .before .before .before .before .before .before .before .before .before .before .before .feed .ensures) (c .before .before .before .before .before .before .before .before .before .before .before .before .before .before .before .before .before .before .before .before .before .before .loop .held) count (c .before .before .before .before .before .before .before .before .before .before .before .before .before .before .before .before .before .before .before .before .before .before .loop .received) (c .before .before .before .before .before .before .before .before .before .before .before .before .before .before .before .before .before .before .before .before .before .before .loop .input) (c .before .before .before .before .before .before .before .before .before .before .before .before .before .before .before .before .before .before .before .before .before .before .loop .inv .4) (came .kept) refl)
+    (omega (arith, held-within (c .before .before .before .before .before .before .before .before .before .before .before .before .before .before .before .before .before .before .before .before .before .before .loop .bench) filled input _ _ _ (c .before .before .before .before .before .before .before .before .before .before .before .feed .result) inside (c .before .before .before .before .before .before .before .before .before .before .before .feed .ensures), inside, laid-length (c .before .before .before .before .before .before .before .before .before .before .before .feed .ensures .held))) (inr (c .before .if2 .taken))
 
 loop-less : tie.Need-loop-less Inv-loop μ-loop
 loop-less c =
@@ -149,12 +149,12 @@ loop-again c =
     let inside : filled ≤ length input = omega (arith, fits, came .inside, came .size) in
     let g = c .before .before .before .before .before .before .before .before .before .before .feed .ensures in
     let few = c .if2 .left in
-    let events = fed-count (c .before .before .before .before .before .before .before .before .before .before .before .before .before .before .before .before .before .before .before .before .before .loop .reader) filled input _ _ _ (c .before .before .before .before .before .before .before .before .before .before .feed .result) inside g in (
-      fed-short (c .before .before .before .before .before .before .before .before .before .before .before .before .before .before .before .before .before .before .before .before .before .loop .reader) filled input _ _ _ (c .before .before .before .before .before .before .before .before .before .before .feed .result) inside g (omega (arith, few)),
+    let events = fed-count (c .before .before .before .before .before .before .before .before .before .before .before .before .before .before .before .before .before .before .before .before .before .loop .bench) filled input _ _ _ (c .before .before .before .before .before .before .before .before .before .before .feed .result) inside g in (
+      fed-short (c .before .before .before .before .before .before .before .before .before .before .before .before .before .before .before .before .before .before .before .before .before .loop .bench) filled input _ _ _ (c .before .before .before .before .before .before .before .before .before .before .feed .result) inside g (omega (arith, few)),
       omega (arith, events, c .before .before .before .before .before .before .before .before .before .before .before .before .before .before .before .before .before .before .before .before .before .loop .inv .1),
       omega (arith, laid-length (g .held), came .size, c .before .before .before .before .before .before .before .before .before .before .before .before .before .before .before .before .before .before .before .before .before .loop .inv .2),
       omega (arith, laid-length (g .laid), c .before .before .before .before .before .before .before .before .before .before .before .before .before .before .before .before .before .before .before .before .before .loop .inv .3),
-      driven-fed (c .before .before .before .before .before .before .before .before .before .before .before .before .before .before .before .before .before .before .before .before .before .loop .reader) filled input _ _ _ (c .before .before .before .before .before .before .before .before .before .before .feed .result) inside (c .before .before .before .before .before .before .before .before .before .before .feed .ensures) (c .before .before .before .before .before .before .before .before .before .before .before .before .before .before .before .before .before .before .before .before .before .loop .held) count (c .before .before .before .before .before .before .before .before .before .before .before .before .before .before .before .before .before .before .before .before .before .loop .come) (c .before .before .before .before .before .before .before .before .before .before .before .before .before .before .before .before .before .before .before .before .before .loop .input) (c .before .before .before .before .before .before .before .before .before .before .before .before .before .before .before .before .before .before .before .before .before .loop .inv .4) (came .kept) refl,
+      after-fed (c .before .before .before .before .before .before .before .before .before .before .before .before .before .before .before .before .before .before .before .before .before .loop .bench) filled input _ _ _ (c .before .before .before .before .before .before .before .before .before .before .feed .result) inside (c .before .before .before .before .before .before .before .before .before .before .feed .ensures) (c .before .before .before .before .before .before .before .before .before .before .before .before .before .before .before .before .before .before .before .before .before .loop .held) count (c .before .before .before .before .before .before .before .before .before .before .before .before .before .before .before .before .before .before .before .before .before .loop .received) (c .before .before .before .before .before .before .before .before .before .before .before .before .before .before .before .before .before .before .before .before .before .loop .input) (c .before .before .before .before .before .before .before .before .before .before .before .before .before .before .before .before .before .before .before .before .before .loop .inv .4) (came .kept) refl,
     )
 
 hand-back-requires-4 : tie.Need-hand-back-requires-4 Inv-loop μ-loop
@@ -184,7 +184,7 @@ run-spec =
     same-length
     same-length-2
     returns
-    add-come
+    add-received
     add-feed
     feed-requires
     write-lines-requires

@@ -16,8 +16,8 @@ sub-advance c =
     let a = c .before .before .before .before .before .before .before .args in
     let p = c .before .before .before .before .before .before .before .pre in
     let t = c .before .before .before .advance .ensures in
-    let w = taken-within (a .reader) (now (a .bytes)) _ _ _ _ t in
-    let r = taken-room (a .reader) (now (a .bytes)) _ _ _ _ t in
+    let w = taken-within (a .bench) (now (a .bytes)) _ _ _ _ t in
+    let r = taken-room (a .bench) (now (a .bytes)) _ _ _ _ t in
     omega (arith, w, r, p)
 
 part-advance-start : tie.Need-part-advance-start
@@ -25,8 +25,8 @@ part-advance-start c =
     let a = c .before .before .before .before .before .before .before .args in
     let p = c .before .before .before .before .before .before .before .pre in
     let t = c .before .before .before .advance .ensures in
-    let w = taken-within (a .reader) (now (a .bytes)) _ _ _ _ t in
-    let r = taken-room (a .reader) (now (a .bytes)) _ _ _ _ t in
+    let w = taken-within (a .bench) (now (a .bytes)) _ _ _ _ t in
+    let r = taken-room (a .bench) (now (a .bytes)) _ _ _ _ t in
     omega (arith, w, r, p)
 
 part-advance-end : tie.Need-part-advance-end
@@ -37,8 +37,8 @@ sub-advance-2 c =
     let a = c .before .before .before .before .before .before .before .before .args in
     let p = c .before .before .before .before .before .before .before .before .pre in
     let t = c .before .before .before .before .advance .ensures in
-    let w = taken-within (a .reader) (now (a .bytes)) _ _ _ _ t in
-    let r = taken-room (a .reader) (now (a .bytes)) _ _ _ _ t in
+    let w = taken-within (a .bench) (now (a .bytes)) _ _ _ _ t in
+    let r = taken-room (a .bench) (now (a .bytes)) _ _ _ _ t in
     omega (arith, w, r, p)
 
 part-advance-start-2 : tie.Need-part-advance-start-2
@@ -46,8 +46,8 @@ part-advance-start-2 c =
     let a = c .before .before .before .before .before .before .before .before .args in
     let p = c .before .before .before .before .before .before .before .before .pre in
     let t = c .before .before .before .before .advance .ensures in
-    let w = taken-within (a .reader) (now (a .bytes)) _ _ _ _ t in
-    let r = taken-room (a .reader) (now (a .bytes)) _ _ _ _ t in
+    let w = taken-within (a .bench) (now (a .bytes)) _ _ _ _ t in
+    let r = taken-room (a .bench) (now (a .bytes)) _ _ _ _ t in
     omega (arith, w, r, p)
 
 part-advance-end-2 : tie.Need-part-advance-end-2
@@ -61,8 +61,8 @@ add-t13 c =
     let a = c .before .before .before .before .before .before .before .before .before .before .before .before .before .before .args in
     let p = c .before .before .before .before .before .before .before .before .before .before .before .before .before .before .pre in
     let t = c .before .before .before .before .before .before .before .before .before .before .advance .ensures in
-    let w = both-within (a .reader) (now (a .bytes)) _ _ _ _ _ _ _ t (c .before .before .before .before .advance2 .ensures) in
-    let r = both-room (a .reader) (now (a .bytes)) _ _ _ _ _ _ _ t (c .before .before .before .before .advance2 .ensures) in
+    let w = both-within (a .bench) (now (a .bytes)) _ _ _ _ _ _ _ t (c .before .before .before .before .advance2 .ensures) in
+    let r = both-room (a .bench) (now (a .bytes)) _ _ _ _ _ _ _ t (c .before .before .before .before .advance2 .ensures) in
     omega (arith, w, p)
 
 add-t17 : tie.Need-add-t17
@@ -70,8 +70,8 @@ add-t17 c =
     let a = c .before .before .before .before .before .before .before .before .before .before .before .before .before .before .before .args in
     let p = c .before .before .before .before .before .before .before .before .before .before .before .before .before .before .before .pre in
     let t = c .before .before .before .before .before .before .before .before .before .before .before .advance .ensures in
-    let w = both-within (a .reader) (now (a .bytes)) _ _ _ _ _ _ _ t (c .before .before .before .before .before .advance2 .ensures) in
-    let r = both-room (a .reader) (now (a .bytes)) _ _ _ _ _ _ _ t (c .before .before .before .before .before .advance2 .ensures) in
+    let w = both-within (a .bench) (now (a .bytes)) _ _ _ _ _ _ _ t (c .before .before .before .before .before .advance2 .ensures) in
+    let r = both-room (a .bench) (now (a .bytes)) _ _ _ _ _ _ _ t (c .before .before .before .before .before .advance2 .ensures) in
     omega (arith, w, r, p, c .before .before .before .before .before .before .before .before .before .before .before .before .before .before .before .good .1 .1 .0 .0)
 
 same-length : tie.Need-same-length
@@ -84,12 +84,12 @@ returns c =
     let bytes = now (a .bytes) in
     let one = c .before .before .before .before .before .before .before .before .before .before .before .advance .ensures in
     let two = c .before .before .before .before .before .advance2 .ensures in
-    let within = taken-within (a .reader) bytes _ _ _ _ one in
-    let room = taken-room (a .reader) bytes _ _ _ _ one in
-    let count = taken-count (a .reader) bytes _ _ _ _ one in
+    let within = taken-within (a .bench) bytes _ _ _ _ one in
+    let room = taken-room (a .bench) bytes _ _ _ _ one in
+    let count = taken-count (a .bench) bytes _ _ _ _ one in
     let size = length-rest (c .before .before .before .before .before .before .before .before .before .before .before .advance .last .1 .1 .0) (c .before .before .before .before .before .before .before .before .before .before .before .advance .result .laid) in
     let rest = length-drop (c .before .before .before .before .before .before .before .before .before .before .before .advance .result .used) bytes in
-    steps-taken (a .reader) bytes _ _ _ _ _ _ _ one two (omega (arith, p)) (omega (arith, p)) (omega (arith, p, within, room, count, size, rest)) (omega (arith, p, within, room, count, size, rest)) (omega (arith, p))
+    steps-taken (a .bench) bytes _ _ _ _ _ _ _ one two (omega (arith, p)) (omega (arith, p)) (omega (arith, p, within, room, count, size, rest)) (omega (arith, p, within, room, count, size, rest)) (omega (arith, p))
 
 pub take-steps-spec : {M : Type 1} → statement M
 take-steps-spec =

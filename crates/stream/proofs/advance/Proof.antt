@@ -7,7 +7,7 @@ use mathlib.Core.List.{List}
 use Prim.Native.Nat.{ℕ, _≤_, _/_, min}
 use native.Mathlib.Omega.{arith}
 use lib.ListN.{length}
-use Rattle.stream.specs.declared.Reader.{Reader}
+use Rattle.stream.specs.declared.Bench.{Bench}
 use Rattle.stream.specs.Parts.{answering, mostLines}
 use Rattle.stream.specs.Advancing.{advance-none, advance-open, advance-events}
 use Rattle.stream.proofs.LayLaws.{nothing-done, advances-is}
@@ -26,7 +26,7 @@ same-length c = search needs
 
 returns : tie.Need-returns
 returns c =
-    let r : Reader = c .before .before .before .before .before .before .before .before .before .before .args .reader in
+    let r : Bench = c .before .before .before .before .before .before .before .before .before .before .args .bench in
     let bytes : List ℕ = now (c .before .before .before .before .before .before .before .before .before .before .args .bytes) in
     let most : ℕ = mostLines (length (now (c .before .before .before .before .before .before .before .before .before .before .args .lines))) r in
     let some : 1 ≤ most = omega (arith, c .before .before .before .before .before .before .before .most-lines .ensures, c .before .before .before .before .before .before .if1 .taken) in
@@ -46,7 +46,7 @@ same-length-2 c = search needs
 
 returns-2 : tie.Need-returns-2
 returns-2 c =
-    let r : Reader = c .before .before .before .before .before .before .before .before .before .before .before .before .before .args .reader in
+    let r : Bench = c .before .before .before .before .before .before .before .before .before .before .before .before .before .args .bench in
     let bytes : List ℕ = now (c .before .before .before .before .before .before .before .before .before .before .before .before .before .args .bytes) in
     let most : ℕ = mostLines (length (now (c .before .before .before .before .before .before .before .before .before .before .before .before .before .args .lines))) r in
     let some : 1 ≤ most = omega (arith, c .before .before .before .before .before .before .before .before .before .before .most-lines .ensures, c .before .before .before .before .before .before .before .before .before .if1 .taken) in
@@ -55,14 +55,14 @@ returns-2 c =
 
 returns-3 : tie.Need-returns-3
 returns-3 c =
-    let r : Reader = c .before .before .before .before .before .before .before .before .args .reader in
+    let r : Bench = c .before .before .before .before .before .before .before .before .args .bench in
     let nonzero = c .if3 .left in
     let not-one = c .before .before .if2 .left in
     advances-is (nothing-done r (now (c .before .before .before .before .before .before .before .before .args .lines))) (advance-none (mostLines (length (now (c .before .before .before .before .before .before .before .before .args .lines))) r) r (now (c .before .before .before .before .before .before .before .before .args .bytes)) (inr (omega arith)))
 
 returns-4 : tie.Need-returns-4
 returns-4 c =
-    let r : Reader = c .before .before .before .before .args .reader in
+    let r : Bench = c .before .before .before .before .args .bench in
     advances-is (nothing-done r (now (c .before .before .before .before .args .lines))) (advance-none (mostLines (length (now (c .before .before .before .before .args .lines))) r) r (now (c .before .before .before .before .args .bytes)) (inl (omega (arith, c .before .most-lines .ensures, c .if1 .left))))
 
 pub advance-spec : {M : Type 1} → statement M

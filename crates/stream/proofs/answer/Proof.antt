@@ -40,7 +40,7 @@ returns c =
     let size : length (take (3 * a .count) (now (a .bytes))) ≡ 3 * a .count = length-take-le (3 * a .count) (now (a .bytes)) (p .0) in
     let answered = c .before .before .before .lay-events .ensures in
     record {
-      reader = ap (λ (s : State). record { refusal = 0; events = a .reader .events + a .count; state = s }) (answered .0);
+      bench = ap (λ (s : State). record { refusal = 0; events = a .bench .events + a .count; state = s }) (answered .0);
       used = refl;
       laid = laid-is (answered .1) refl (omega (arith, p .1));
     }

@@ -22,7 +22,7 @@ returns : tie.Need-returns
 returns c =
     let is = c .before .before .before .before .before .read-table .ensures in
     record {
-      reader = ap opened is;
+      bench = ap opened is;
       used = ap (λ (t : TableRead). t .used) is;
       laid = laid-is (c .before .before .lay-opening .ensures) (ap (λ (t : TableRead). opening t .lines) is) (omega arith);
     }

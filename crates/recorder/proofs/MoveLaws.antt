@@ -11,16 +11,16 @@ use lib.Seq.{length-take-le, getD-set-same, getD-set-other, getD-take, getD-drop
 use Rattle.decimals.specs.Laid.{Laid}
 
 -- the first i bytes are those from index `from` on, and the others as they were
-pub record Kept (before buf : List ℕ) (from i : ℕ) : Type 0 where
+pub record Moved (before buf : List ℕ) (from i : ℕ) : Type 0 where
   pub size : length buf ≡ length before
   pub done : (j : ℕ) → j < i → getD buf j 0 ≡ getD before (from + j) 0
   pub rest : (j : ℕ) → i ≤ j → getD buf j 0 ≡ getD before j 0
 
-pub kept-start : (buf : List ℕ) (from : ℕ) → Kept buf buf from 0
-kept-start buf from = record { size = refl; done = λ j h. absurd (omega arith); rest = λ j h. refl }
+pub moved-start : (buf : List ℕ) (from : ℕ) → Moved buf buf from 0
+moved-start buf from = record { size = refl; done = λ j h. absurd (omega arith); rest = λ j h. refl }
 
-pub kept-more : (before buf : List ℕ) (from i : ℕ) → Kept before buf from i → i < length buf → Kept before (set buf i (getD buf (from + i) 0)) from (i + 1)
-kept-more before buf from i k h =
+pub moved-more : (before buf : List ℕ) (from i : ℕ) → Moved before buf from i → i < length buf → Moved before (set buf i (getD buf (from + i) 0)) from (i + 1)
+moved-more before buf from i k h =
     record {
       size = length-set buf i (getD buf (from + i) 0) ∙ k .size;
       done = λ j l. go j (eq-or-lt-of-le l);
@@ -37,7 +37,7 @@ kept-more before buf from i k h =
     go j (inr l) = getD-set-other buf i j (getD buf (from + i) 0) 0 (λ e. omega arith) ∙ k .done j (omega arith)
 
 -- all are moved
-module _ (before buf : List ℕ) (from to : ℕ) (k : Kept before buf from (to - from)) (f : from ≤ to) (t : to ≤ length before) where
+module _ (before buf : List ℕ) (from to : ℕ) (k : Moved before buf from (to - from)) (f : from ≤ to) (t : to ≤ length before) where
   abbrev n : ℕ
   n = to - from
 
@@ -61,8 +61,8 @@ module _ (before buf : List ℕ) (from to : ℕ) (k : Kept before buf from (to -
       ext-getD 0 (drop n buf) (drop n before) (length-drop n buf ∙ ap (λ (m : ℕ). m - n) (k .size) ∙ sym (length-drop n before))
       (λ j l. getD-drop n buf j 0 ∙ k .rest (n + j) (omega arith) ∙ sym (getD-drop n before j 0))
 
-  pub kept-laid : Laid before buf 0 n n text
-  kept-laid =
+  pub moved-laid : Laid before buf 0 n n text
+  moved-laid =
       let size = text-length in
       record {
         stored =

@@ -1,15 +1,15 @@
--- `recorder::keep` meets its contract: the bytes moved so far, and the others as they were. It ends because the bytes left to move fall.
+-- `recorder::move_to_front` meets its contract: the bytes moved so far, and the others as they were. It ends because the bytes left to move fall.
 -- Assumes nothing.
 use mathlib.Core.Path.{_≡_, subst}
 use Prim.Native.Nat.{_-_, _≤_}
 use native.Mathlib.Omega.{arith}
-use Rattle.recorder.proofs.KeepLaws.{Kept, kept-start, kept-more, kept-laid}
+use Rattle.recorder.proofs.MoveLaws.{Moved, moved-start, moved-more, moved-laid}
 use borrow.Author.Needs.{needs}
-use Rattle.recorder.proofs.keep.Statement.{statement}
-use Rattle.recorder.proofs.keep.Tie as tie
+use Rattle.recorder.proofs.move_to_front.Statement.{statement}
+use Rattle.recorder.proofs.move_to_front.Tie as tie
 
 abbrev Inv-loop : tie.InvT-loop
-Inv-loop buf₀ from to count i₀ buf i = Kept buf₀ buf from i × (i ≤ count)
+Inv-loop buf₀ from to count i₀ buf i = Moved buf₀ buf from i × (i ≤ count)
 
 abbrev μ-loop : tie.MeasureT-loop
 μ-loop buf₀ from to count i₀ buf i = count - i
@@ -18,7 +18,7 @@ sub-count : tie.Need-sub-count Inv-loop μ-loop
 sub-count c = search needs
 
 loop-holds : tie.Need-loop-holds Inv-loop μ-loop
-loop-holds c = (kept-start _ _, omega arith)
+loop-holds c = (moved-start _ _, omega arith)
 
 add-buf : tie.Need-add-buf Inv-loop μ-loop
 add-buf c = search needs
@@ -38,7 +38,7 @@ loop-less c = search needs
 loop-again : tie.Need-loop-again Inv-loop μ-loop
 loop-again c =
     let k = c .before .before .loop .inv .0 in
-    (kept-more _ _ _ _ k (omega (arith, k .size)), omega arith)
+    (moved-more _ _ _ _ k (omega (arith, k .size)), omega arith)
 
 same-length : tie.Need-same-length Inv-loop μ-loop
 same-length c = search needs
@@ -46,10 +46,10 @@ same-length c = search needs
 returns : tie.Need-returns Inv-loop μ-loop
 returns c =
     let n : c .before .loop .i ≡ c .before .before .args .to - c .before .before .args .from = omega arith in
-    kept-laid _ _ _ _ (subst (Kept _ _ _) n (c .before .loop .inv .0)) (omega arith) (omega arith)
+    moved-laid _ _ _ _ (subst (Moved _ _ _) n (c .before .loop .inv .0)) (omega arith) (omega arith)
 
-pub keep-spec : {M : Type 1} → statement M
-keep-spec =
+pub move-to-front-spec : {M : Type 1} → statement M
+move-to-front-spec =
     tie.close
     (tie.spec
     Inv-loop
