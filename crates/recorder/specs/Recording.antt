@@ -4,12 +4,13 @@
 use Prim.Native.Nat.{ℕ, zero, suc, _+_, _*_, _-_, _^_, _≤_, _<_}
 use mathlib.Core.Path.{_≡_}
 use mathlib.Core.Logic.{_⊎_}
-use mathlib.Core.List.{List}
+use mathlib.Core.List.{List, [], _∷_, _++_}
 use lib.IntN.{ℤ, pos, negsuc}
 use lib.ListN.{length, take, drop}
+use lib.Seq.{sets}
 use Rattle.decimals.specs.Laid.{Laid}
 use Rattle.stream.specs.declared.Bench.{Bench}
-use Rattle.stream.specs.Parts.{Advance, begun, fedAll, joinedParts}
+use Rattle.stream.specs.Parts.{Advance, feed, Progress, begun, fed, fedAll, joinedParts}
 use Rattle.recorder.specs.declared.Part.{Part}
 use Rattle.recorder.specs.declared.Ended.{Ended}
 use Rattle.recorder.specs.declared.Recorded.{Recorded}
@@ -42,13 +43,27 @@ pub record Feeds (r : Fed) (bytes : List ℕ) (t : Advance) (input input′ line
   pub held : Laid input input′ 0 (r .held) (length bytes) (drop (t .used) bytes)
   pub laid : Laid lines lines′ 0 (r .laid) (90 + 15 * length bytes) (t .lines)
 
--- the bench and the bytes that it has not used, as some parts leave them that came one after the other, so many bytes in all. By
--- `record-of-parts` all lines laid for these parts, and then the last line of this bench and these bytes, are the record of the parts joined.
-pub record AfterParts (bench : Bench) (held : List ℕ) (received : ℕ) : Type 0 where
+-- the record buffer behind some parts: the lines of each were laid at its front, over those of the part before
+unfoldable pub overlaid : List (List ℕ) → Progress → List ℕ → List ℕ
+overlaid [] p lines = lines
+overlaid (part ∷ parts) p lines = overlaid parts (fed part p) (sets lines 0 (feed (p .bench) (p .held ++ part) .lines))
+
+-- the bench, the bytes that it has not used and the record buffer, as some parts leave them that came one after the other, so many bytes
+-- in all. By `record-of-parts` all lines laid for these parts, and then the last line of this bench and these bytes, are the record of the
+-- parts joined.
+pub record AfterParts (bench : Bench) (held : List ℕ) (received : ℕ) (lines lines′ : List ℕ) : Type 0 where
   pub parts : List (List ℕ)
   pub bench-is : bench ≡ fedAll parts begun .bench
   pub held-is : held ≡ fedAll parts begun .held
   pub received-is : received ≡ length (joinedParts parts)
+  pub lines-are : lines′ ≡ overlaid parts begun lines
+
+-- the bench and the bytes that it has not used, as some parts leave them
+pub record AfterSomeParts (bench : Bench) (held : List ℕ) : Type 0 where
+  pub received : ℕ
+  pub lines : List ℕ
+  pub lines′ : List ℕ
+  pub after-parts : AfterParts bench held received lines lines′
 
 -- a proved loop has to end: no part is read behind so many bytes, whose events 64 bits count
 abbrev pub mostBytes : ℕ
@@ -66,8 +81,8 @@ Ends Ended.TooLong received r = mostBytes ≤ received
 abbrev pub EndsWithoutPart : Ended → Bench → Type 0
 EndsWithoutPart e r = (received : ℕ) → received < mostBytes → Ends e received r
 
--- what is handed back, and the input buffer, whose front has the bytes held
-pub record Records (r : Recorded) (input : List ℕ) : Type 0 where
-  pub after-parts : AfterParts (r .bench) (take (r .held) input) (r .received)
+-- what is handed back, the input buffer, whose front has the bytes held, and the record buffer
+pub record Records (r : Recorded) (input lines lines′ : List ℕ) : Type 0 where
+  pub after-parts : AfterParts (r .bench) (take (r .held) input) (r .received) lines lines′
   pub inside : r .held ≤ length input
   pub ends : Ends (r .ended) (r .received) (r .bench)

@@ -8,7 +8,7 @@ use native.Mathlib.Nat.{add-zero, zero-add}
 use native.Mathlib.Omega.{arith}
 use lib.IntN.{ℤ, pos, negsuc}
 use lib.ListN.{length, take, drop, length-append, length-drop, take-append-drop}
-use lib.Seq.{take-take, length-take-le}
+use lib.Seq.{sets, take-take, length-take-le}
 use Rattle.table_bytes.specs.Decided.{longestTable}
 use Rattle.decimals.specs.Laid.{laid-front}
 use Rattle.stream.specs.declared.Bench.{Bench}
@@ -17,16 +17,22 @@ use Rattle.stream.specs.AnyParts.{settled-short, feed-count, feed-settled}
 use Rattle.recorder.specs.declared.Fed.{Fed}
 use Rattle.recorder.specs.declared.Ended.{Ended}
 use Rattle.recorder.specs.declared.Recorded.{Recorded}
-use Rattle.recorder.specs.Recording.{partOf, Fits, Feeds, AfterParts, Ends, Records}
+use Rattle.recorder.specs.Recording.{partOf, Fits, Feeds, overlaid, AfterParts, Ends, Records}
 
 pub part-fits : (got : ℤ) (count room : ℕ) → count ≤ room → Fits (partOf got count) room
 part-fits (negsuc k) count room h = tt
 part-fits (pos k) zero room h = tt
 part-fits (pos k) (suc n) room h = (omega arith, h)
 
-pub after-none : (r : Bench) → r ≡ unread → AfterParts r [] 0
-unfolding fedAll joinedParts
-after-none r e = record { parts = []; bench-is = e; held-is = refl; received-is = refl }
+pub after-none : (r : Bench) (lines : List ℕ) → r ≡ unread → AfterParts r [] 0 lines lines
+unfolding fedAll joinedParts overlaid
+after-none r lines e = record { parts = []; bench-is = e; held-is = refl; received-is = refl; lines-are = refl }
+
+-- the same bytes held, under another name
+pub after-same : {r : Bench} {held held′ : List ℕ} {received : ℕ} {lines lines′ : List ℕ} → AfterParts r held received lines lines′ → held′ ≡ held
+    → AfterParts r held′ received lines lines′
+after-same d e =
+    record { parts = d .parts; bench-is = d .bench-is; held-is = e ∙ d .held-is; received-is = d .received-is; lines-are = d .lines-are }
 
 fed-all-more : (parts : List (List ℕ)) (part : List ℕ) (p : Progress) → fedAll (parts ++ (part ∷ [])) p ≡ fed part (fedAll parts p)
 unfolding fedAll
@@ -39,10 +45,16 @@ joined-more [] part = length-append part [] ∙ add-zero (length part) ∙ sym (
 joined-more (first ∷ parts) part =
     omega (arith, joined-more parts part, length-append first (joinedParts (parts ++ (part ∷ []))), length-append first (joinedParts parts))
 
+overlaid-more : (parts : List (List ℕ)) (part : List ℕ) (p : Progress) (lines : List ℕ)
+    → overlaid (parts ++ (part ∷ [])) p lines ≡ sets (overlaid parts p lines) 0 (feed (fedAll parts p .bench) (fedAll parts p .held ++ part) .lines)
+unfolding fedAll overlaid
+overlaid-more [] part p lines = refl
+overlaid-more (first ∷ parts) part p lines = overlaid-more parts part (fed first p) (sets lines 0 (feed (p .bench) (p .held ++ first) .lines))
+
 -- one part more
-after-more : (r : Bench) (held part : List ℕ) (received : ℕ) → AfterParts r held received
-    → AfterParts (feed r (held ++ part) .bench) (drop (feed r (held ++ part) .used) (held ++ part)) (received + length part)
-after-more r held part received d =
+after-more : (r : Bench) (held part : List ℕ) (received : ℕ) (lines lines′ : List ℕ) → AfterParts r held received lines lines′
+    → AfterParts (feed r (held ++ part) .bench) (drop (feed r (held ++ part) .used) (held ++ part)) (received + length part) lines (sets lines′ 0 (feed r (held ++ part) .lines))
+after-more r held part received lines lines′ d =
     let more = fed-all-more (d .parts) part begun in
     let is : feed r (held ++ part) ≡ feed (fedAll (d .parts) begun .bench) (fedAll (d .parts) begun .held ++ part) =
     ap₂ (λ (x : Bench) (l : List ℕ). feed x (l ++ part)) (d .bench-is) (d .held-is) in
@@ -52,6 +64,7 @@ after-more r held part received d =
       held-is =
           ap₂ (λ (t : Advance) (l : List ℕ). drop (t .used) (l ++ part)) is (d .held-is) ∙ sym (ap (λ (p : Progress). p .held) more);
       received-is = ap (λ (n : ℕ). n + length part) (d .received-is) ∙ sym (joined-more (d .parts) part);
+      lines-are = ap₂ (λ (l : List ℕ) (t : Advance). sets l 0 (t .lines)) (d .lines-are) is ∙ sym (overlaid-more (d .parts) part begun lines);
     }
 
 module _ (r : Bench) (filled : ℕ) (input after a b : List ℕ) (f : Fed) (h : filled ≤ length input)
@@ -79,21 +92,28 @@ module _ (r : Bench) (filled : ℕ) (input after a b : List ℕ) (f : Fed) (h : 
   held-within = omega (arith, count, size, length-drop (feed r bytes .used) bytes)
 
   -- so many bytes were read behind those held, and fed
-  pub after-fed : (held came received : ℕ) (before : List ℕ) → AfterParts r (take held before) received → take held input ≡ take held before → filled ≡ held + came
-      → AfterParts (f .bench) (take (f .held) after) (received + came)
-  after-fed held came received before d kept l =
+  pub after-fed : (held came received : ℕ) (before lines : List ℕ) → AfterParts r (take held before) received lines a → take held input ≡ take held before → filled ≡ held + came
+      → AfterParts (f .bench) (take (f .held) after) (received + came) lines b
+  after-fed held came received before lines d kept l =
       let part : List ℕ = drop held bytes in
       let joined : take held before ++ part ≡ bytes =
       ap (λ (l : List ℕ). l ++ part) (sym kept ∙ sym (take-take held filled input (omega arith))) ∙ take-append-drop held bytes in
-      let there : AfterParts (feed r bytes .bench) rest (received + length part) =
-      subst (λ (l : List ℕ). AfterParts (feed r l .bench) (drop (feed r l .used) l) (received + length part)) joined (after-more r (take held before) part received d) in
+      let there : AfterParts (feed r bytes .bench) rest (received + length part) lines (sets a 0 (feed r bytes .lines)) =
+      subst (λ (l : List ℕ). AfterParts (feed r l .bench) (drop (feed r l .used) l) (received + length part) lines (sets a 0 (feed r l .lines))) joined
+      (after-more r (take held before) part received lines a d) in
       let long : length part ≡ came = omega (arith, length-drop held bytes, size) in
       let front : take (f .held) after ≡ rest = laid-front (g .held) (omega (arith, size, length-drop (feed r bytes .used) bytes)) in
-      subst (λ (n : ℕ). AfterParts (f .bench) (take (f .held) after) (received + n)) long
-      (subst (λ (x : Bench). AfterParts x (take (f .held) after) (received + length part)) (sym (g .bench))
-      (subst (λ (l : List ℕ). AfterParts (feed r bytes .bench) l (received + length part)) (sym front) there))
+      record {
+        parts = there .parts;
+        bench-is = g .bench ∙ there .bench-is;
+        held-is = front ∙ there .held-is;
+        received-is = ap (λ (n : ℕ). received + n) (sym long) ∙ there .received-is;
+        lines-are = g .laid .stored ∙ there .lines-are;
+      }
 
 -- what is handed back, by its parts
-pub records-is : {r : Recorded} {e : Ended} {received held : ℕ} {bench : Bench} {input : List ℕ} → r ≡ record { ended = e; received = received; bench = bench; held = held }
-    → AfterParts bench (take held input) received → held ≤ length input → Ends e received bench → Records r input
-records-is {r} {e} {received} {held} {bench} {input} is d h k = subst (λ (x : Recorded). Records x input) (sym is) (record { after-parts = d; inside = h; ends = k })
+pub records-is : {r : Recorded} {e : Ended} {received held : ℕ} {bench : Bench} {input lines lines′ : List ℕ}
+    → r ≡ record { ended = e; received = received; bench = bench; held = held }
+    → AfterParts bench (take held input) received lines lines′ → held ≤ length input → Ends e received bench → Records r input lines lines′
+records-is {r} {e} {received} {held} {bench} {input} {lines} {lines′} is d h k =
+    subst (λ (x : Recorded). Records x input lines lines′) (sym is) (record { after-parts = d; inside = h; ends = k })

@@ -1,11 +1,11 @@
 // Writes the bench record of what comes on one file descriptor to another, part by part, as it comes.
 ghost use mathlib.Core.Path.{_≡_};
-ghost use Prim.Native.Nat.{ℕ, _+_, _*_, _-_, _^_, _≤_, _<_, min, max};
+ghost use Prim.Native.Nat.{_+_, _*_, _-_, _^_, _≤_, _<_, min, max};
 ghost use lib.ListN.{length, take, drop};
 ghost use Rattle.table_bytes.specs.Decided.{longestTable};
 ghost use Rattle.decimals.specs.Laid.{Laid};
 ghost use Rattle.stream.specs.Parts.{feed, Advances};
-ghost use Rattle.recorder.specs.Recording.{partOf, Came, Feeds, AfterParts, EndsWithoutPart, Records};
+ghost use Rattle.recorder.specs.Recording.{partOf, Came, Feeds, AfterSomeParts, EndsWithoutPart, Records};
 use stream::Advanced;
 use stream::Bench;
 
@@ -141,7 +141,7 @@ fn write_lines(to: i32, lines: &[u8], n: usize) -> bool
 
 // Writes the last line, where the first bytes of the input buffer were not used: those that some parts leave to this bench.
 fn write_last(to: i32, bench: Bench, input: &[u8], held: usize) -> bool
-    requires { ⌜ ((received : ℕ) × AfterParts bench (take held (now input)) received) × (held ≤ length (now input)) ⌝ }
+    requires { ⌜ AfterSomeParts bench (take held (now input)) × (held ≤ length (now input)) ⌝ }
 {
     let mut line = [0; 64];
     let n = stream::last_line(&mut line, bench, held);
@@ -150,7 +150,7 @@ fn write_last(to: i32, bench: Bench, input: &[u8], held: usize) -> bool
 
 // How the record ends where no part came: with its last line, or with none where a read failed.
 fn end_record(to: i32, part: Part, bench: Bench, input: &[u8], held: usize) -> Ended
-    requires { ⌜ ((received : ℕ) × AfterParts bench (take held (now input)) received) × (held ≤ length (now input)) ⌝ }
+    requires { ⌜ AfterSomeParts bench (take held (now input)) × (held ≤ length (now input)) ⌝ }
     ensures { λ r. ⌜ EndsWithoutPart r bench ⌝ }
 {
     if let Part::Failed = part {
@@ -177,7 +177,7 @@ fn hand_back(ended: Ended, received: u64, bench: Bench, held: usize) -> Recorded
 // Reads part after part and writes the lines of each as it comes. A proved loop has to end: this one does after 2^64 - 2^16 bytes.
 fn run(from: i32, to: i32, most: usize, input: &mut [u8], lines: &mut [u8]) -> Recorded
     requires { ⌜ (longestTable ≤ length (now input)) × (length (now input) < 2 ^ 16) × (90 + 15 * length (now input) ≤ length (now lines)) ⌝ }
-    ensures { λ r. ⌜ Records r (now (input .exit)) ⌝ }
+    ensures { λ r. ⌜ Records r (now (input .exit)) (now (lines .entry)) (now (lines .exit)) ⌝ }
 {
     let mut bench = stream::unread();
     let mut held = 0;
@@ -220,8 +220,8 @@ fn report(errors: i32, ended: Ended) {
 }
 
 // Writes the record of what comes on `from`, at most so many bytes at a time (and at least one), to `to`: after each read the lines that
-// it decides, behind the last the last line. Where a read or a write fails it stops at once and says so on `errors`. What it hands back are
-// the bench and the bytes held, at the front of the input buffer, behind the parts that came.
+// it decides, behind the last the last line. Where a read or a write fails it stops at once and says so on `errors`. Hands back the bench and
+// the bytes held, at the front of the input buffer, behind the parts that came; the record buffer has the lines of each part over the last.
 pub fn write_record(
     from: i32,
     to: i32,
@@ -230,7 +230,7 @@ pub fn write_record(
     input: &mut InputBuffer,
     lines: &mut RecordBuffer,
 ) -> Recorded
-    ensures { λ r. ⌜ Records r (now (input .exit)) ⌝ }
+    ensures { λ r. ⌜ Records r (now (input .exit)) (now (lines .entry)) (now (lines .exit)) ⌝ }
 {
     let recorded = run(from, to, most, input, lines);
     let ended = recorded.ended;

@@ -13,14 +13,14 @@ use Rattle.decimals.specs.Laid.{laid-length}
 use Rattle.stream.specs.declared.Bench.{Bench}
 use Rattle.recorder.specs.declared.Part.{Part}
 use Rattle.recorder.specs.Recording.{Fits, AfterParts, mostBytes}
-use Rattle.recorder.specs.RecordingLaws.{after-none, after-fed, fed-short, fed-count, held-within, records-is}
+use Rattle.recorder.specs.RecordingLaws.{after-none, after-same, after-fed, fed-short, fed-count, held-within, records-is}
 use borrow.Author.Needs.{needs}
 use Rattle.recorder.proofs.run.Statement.{statement}
 use Rattle.recorder.proofs.run.Tie as tie
 
 abbrev Inv-loop : tie.InvT-loop
 Inv-loop from to most input₀ lines₀ reader₀ held₀ come₀ input lines bench held received =
-    (held < longestTable) × (bench .events + held ≤ received) × (length input ≡ length input₀) × (length lines ≡ length lines₀) × AfterParts bench (take held input) received
+    (held < longestTable) × (bench .events + held ≤ received) × (length input ≡ length input₀) × (length lines ≡ length lines₀) × AfterParts bench (take held input) received lines₀ lines
 
 abbrev μ-loop : tie.MeasureT-loop
 μ-loop from to most input₀ lines₀ reader₀ held₀ come₀ input lines bench held received = mostBytes - received
@@ -31,7 +31,7 @@ unread-requires c κs = search needs
 loop-holds : tie.Need-loop-holds Inv-loop μ-loop
 loop-holds c =
     let e = ap (λ (r : Bench). r .events) (c .unread .ensures) in
-    (omega arith, omega (arith, e), refl, refl, after-none _ (c .unread .ensures))
+    (omega arith, omega (arith, e), refl, refl, after-none _ _ (c .unread .ensures))
 
 read-part-requires : tie.Need-read-part-requires Inv-loop μ-loop
 read-part-requires c κs = search needs
@@ -41,7 +41,7 @@ enum-known-part c = search needs
 
 end-record-requires : tie.Need-end-record-requires Inv-loop μ-loop
 end-record-requires c κs = (
-  (c .before .before .before .before .before .before .before .loop .received, subst (λ (l : List ℕ). AfterParts (c .before .before .before .before .before .before .before .loop .bench) l (c .before .before .before .before .before .before .before .loop .received)) (sym (c .before .before .before .before .read-part .ensures .kept)) (c .before .before .before .before .before .before .before .loop .inv .4)),
+  record { received = c .before .before .before .before .before .before .before .loop .received; lines = _; lines′ = _; after-parts = after-same (c .before .before .before .before .before .before .before .loop .inv .4) (c .before .before .before .before .read-part .ensures .kept) },
   omega (arith, c .before .before .before .before .before .before .before .loop .inv, c .before .before .before .before .read-part .ensures .size, c .before .before .before .before .before .before .before .before .before .before .before .pre),
 )
 
@@ -56,7 +56,7 @@ same-length-2 c = search needs
 
 returns : tie.Need-returns Inv-loop μ-loop
 returns c =
-    records-is (c .hand-back .ensures) (subst (λ (l : List ℕ). AfterParts (c .before .before .before .before .before .before .before .before .before .loop .bench) l (c .before .before .before .before .before .before .before .before .before .loop .received)) (sym (c .before .before .before .before .before .before .read-part .ensures .kept)) (c .before .before .before .before .before .before .before .before .before .loop .inv .4))
+    records-is (c .hand-back .ensures) (after-same (c .before .before .before .before .before .before .before .before .before .loop .inv .4) (c .before .before .before .before .before .before .read-part .ensures .kept))
     (omega (arith, c .before .before .before .before .before .before .before .before .before .loop .inv, c .before .before .before .before .before .before .read-part .ensures .size, c .before .before .before .before .before .before .before .before .before .before .before .before .before .pre)) (c .before .end-record .ensures (c .before .before .before .before .before .before .before .before .before .loop .received) (c .before .before .before .before .before .before .before .before .loop-test .taken))
 
 add-received : tie.Need-add-received Inv-loop μ-loop
@@ -108,7 +108,7 @@ returns-2 c =
     let filled : ℕ = c .before .before .before .before .before .before .before .before .before .before .before .before .before .before .before .before .before .before .before .before .loop .held + count in
     let input : List ℕ = c .before .before .before .before .before .before .before .before .before .before .before .before .before .before .before .before .before .read-part .last .1 .1 .0 in
     let inside : filled ≤ length input = omega (arith, fits, came .inside, came .size) in
-    records-is (c .hand-back2 .ensures) (after-fed (c .before .before .before .before .before .before .before .before .before .before .before .before .before .before .before .before .before .before .before .before .loop .bench) filled input _ _ _ (c .before .before .before .before .before .before .before .before .before .feed .result) inside (c .before .before .before .before .before .before .before .before .before .feed .ensures) (c .before .before .before .before .before .before .before .before .before .before .before .before .before .before .before .before .before .before .before .before .loop .held) count (c .before .before .before .before .before .before .before .before .before .before .before .before .before .before .before .before .before .before .before .before .loop .received) (c .before .before .before .before .before .before .before .before .before .before .before .before .before .before .before .before .before .before .before .before .loop .input) (c .before .before .before .before .before .before .before .before .before .before .before .before .before .before .before .before .before .before .before .before .loop .inv .4) (came .kept) refl)
+    records-is (c .hand-back2 .ensures) (after-fed (c .before .before .before .before .before .before .before .before .before .before .before .before .before .before .before .before .before .before .before .before .loop .bench) filled input _ _ _ (c .before .before .before .before .before .before .before .before .before .feed .result) inside (c .before .before .before .before .before .before .before .before .before .feed .ensures) (c .before .before .before .before .before .before .before .before .before .before .before .before .before .before .before .before .before .before .before .before .loop .held) count (c .before .before .before .before .before .before .before .before .before .before .before .before .before .before .before .before .before .before .before .before .loop .received) (c .before .before .before .before .before .before .before .before .before .before .before .before .before .before .before .before .before .before .before .before .loop .input) _ (c .before .before .before .before .before .before .before .before .before .before .before .before .before .before .before .before .before .before .before .before .loop .inv .4) (came .kept) refl)
     (omega (arith, held-within (c .before .before .before .before .before .before .before .before .before .before .before .before .before .before .before .before .before .before .before .before .loop .bench) filled input _ _ _ (c .before .before .before .before .before .before .before .before .before .feed .result) inside (c .before .before .before .before .before .before .before .before .before .feed .ensures), inside, laid-length (c .before .before .before .before .before .before .before .before .before .feed .ensures .held))) tt
 
 hand-back-requires-3 : tie.Need-hand-back-requires-3 Inv-loop μ-loop
@@ -130,7 +130,7 @@ returns-3 c =
     let filled : ℕ = c .before .before .before .before .before .before .before .before .before .before .before .before .before .before .before .before .before .before .before .before .before .before .loop .held + count in
     let input : List ℕ = c .before .before .before .before .before .before .before .before .before .before .before .before .before .before .before .before .before .before .before .read-part .last .1 .1 .0 in
     let inside : filled ≤ length input = omega (arith, fits, came .inside, came .size) in
-    records-is (c .hand-back3 .ensures) (after-fed (c .before .before .before .before .before .before .before .before .before .before .before .before .before .before .before .before .before .before .before .before .before .before .loop .bench) filled input _ _ _ (c .before .before .before .before .before .before .before .before .before .before .before .feed .result) inside (c .before .before .before .before .before .before .before .before .before .before .before .feed .ensures) (c .before .before .before .before .before .before .before .before .before .before .before .before .before .before .before .before .before .before .before .before .before .before .loop .held) count (c .before .before .before .before .before .before .before .before .before .before .before .before .before .before .before .before .before .before .before .before .before .before .loop .received) (c .before .before .before .before .before .before .before .before .before .before .before .before .before .before .before .before .before .before .before .before .before .before .loop .input) (c .before .before .before .before .before .before .before .before .before .before .before .before .before .before .before .before .before .before .before .before .before .before .loop .inv .4) (came .kept) refl)
+    records-is (c .hand-back3 .ensures) (after-fed (c .before .before .before .before .before .before .before .before .before .before .before .before .before .before .before .before .before .before .before .before .before .before .loop .bench) filled input _ _ _ (c .before .before .before .before .before .before .before .before .before .before .before .feed .result) inside (c .before .before .before .before .before .before .before .before .before .before .before .feed .ensures) (c .before .before .before .before .before .before .before .before .before .before .before .before .before .before .before .before .before .before .before .before .before .before .loop .held) count (c .before .before .before .before .before .before .before .before .before .before .before .before .before .before .before .before .before .before .before .before .before .before .loop .received) (c .before .before .before .before .before .before .before .before .before .before .before .before .before .before .before .before .before .before .before .before .before .before .loop .input) _ (c .before .before .before .before .before .before .before .before .before .before .before .before .before .before .before .before .before .before .before .before .before .before .loop .inv .4) (came .kept) refl)
     (omega (arith, held-within (c .before .before .before .before .before .before .before .before .before .before .before .before .before .before .before .before .before .before .before .before .before .before .loop .bench) filled input _ _ _ (c .before .before .before .before .before .before .before .before .before .before .before .feed .result) inside (c .before .before .before .before .before .before .before .before .before .before .before .feed .ensures), inside, laid-length (c .before .before .before .before .before .before .before .before .before .before .before .feed .ensures .held))) (inr (c .before .if2 .taken))
 
 loop-less : tie.Need-loop-less Inv-loop μ-loop
@@ -154,7 +154,7 @@ loop-again c =
       omega (arith, events, c .before .before .before .before .before .before .before .before .before .before .before .before .before .before .before .before .before .before .before .before .before .loop .inv .1),
       omega (arith, laid-length (g .held), came .size, c .before .before .before .before .before .before .before .before .before .before .before .before .before .before .before .before .before .before .before .before .before .loop .inv .2),
       omega (arith, laid-length (g .laid), c .before .before .before .before .before .before .before .before .before .before .before .before .before .before .before .before .before .before .before .before .before .loop .inv .3),
-      after-fed (c .before .before .before .before .before .before .before .before .before .before .before .before .before .before .before .before .before .before .before .before .before .loop .bench) filled input _ _ _ (c .before .before .before .before .before .before .before .before .before .before .feed .result) inside (c .before .before .before .before .before .before .before .before .before .before .feed .ensures) (c .before .before .before .before .before .before .before .before .before .before .before .before .before .before .before .before .before .before .before .before .before .loop .held) count (c .before .before .before .before .before .before .before .before .before .before .before .before .before .before .before .before .before .before .before .before .before .loop .received) (c .before .before .before .before .before .before .before .before .before .before .before .before .before .before .before .before .before .before .before .before .before .loop .input) (c .before .before .before .before .before .before .before .before .before .before .before .before .before .before .before .before .before .before .before .before .before .loop .inv .4) (came .kept) refl,
+      after-fed (c .before .before .before .before .before .before .before .before .before .before .before .before .before .before .before .before .before .before .before .before .before .loop .bench) filled input _ _ _ (c .before .before .before .before .before .before .before .before .before .before .feed .result) inside (c .before .before .before .before .before .before .before .before .before .before .feed .ensures) (c .before .before .before .before .before .before .before .before .before .before .before .before .before .before .before .before .before .before .before .before .before .loop .held) count (c .before .before .before .before .before .before .before .before .before .before .before .before .before .before .before .before .before .before .before .before .before .loop .received) (c .before .before .before .before .before .before .before .before .before .before .before .before .before .before .before .before .before .before .before .before .before .loop .input) _ (c .before .before .before .before .before .before .before .before .before .before .before .before .before .before .before .before .before .before .before .before .before .loop .inv .4) (came .kept) refl,
     )
 
 hand-back-requires-4 : tie.Need-hand-back-requires-4 Inv-loop μ-loop
