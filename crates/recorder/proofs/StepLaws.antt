@@ -7,7 +7,7 @@ use native.Mathlib.Omega.{arith}
 use native.Mathlib.Nat.{zero-add}
 use lib.ListN.{length, take, drop, length-drop, drop-of-length-le}
 use lib.Seq.{take-all, sets, sets-eq, drop-drop}
-use Rattle.decimals.specs.Laid.{Laid, laid-then, laid-is}
+use Rattle.decimals.specs.Laid.{Laid, laid-then, laid-is, laid-length}
 use Rattle.stream.specs.declared.Bench.{Bench}
 use Rattle.stream.specs.declared.Advanced.{Advanced}
 use Rattle.stream.specs.Parts.{Advance, advance, feed, Advances}
@@ -53,6 +53,10 @@ module _ (bench : Bench) (bytes : List ℕ) (most : ℕ) (r : Advanced) (a b : L
 
   pub taken-room : r .laid ≤ 45 + 15 * r .used
   taken-room = omega (arith, p .used, p .laid .within)
+
+  -- the lines of both steps fit where two lines and 15 bytes for each byte do
+  pub taken-fits : 90 + 15 * length bytes ≤ length a → r .laid ≤ length b
+  taken-fits h = omega (arith, taken-within, taken-room, laid-length (p .laid))
 
   pub taken-count : r .bench .events + length (drop (r .used) bytes) ≤ bench .events + length bytes
   taken-count =

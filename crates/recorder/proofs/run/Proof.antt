@@ -1,7 +1,7 @@
 -- `recorder::run` meets its contract. The loop's invariant: the bench and the bytes held are as the parts that came leave them, the bytes
 -- are fewer than a table has, so that there is room for more, and the events and the bytes are no more than have come.
 -- It ends because what may still come falls. Assumes nothing.
-use mathlib.Core.Path.{_≡_, refl, sym, ap, subst}
+use mathlib.Core.Path.{_≡_, refl, ap, subst}
 use mathlib.Core.Logic.{inr}
 use mathlib.Core.List.{List}
 use Prim.Native.Nat.{ℕ, _+_, _-_, _≤_, _<_}

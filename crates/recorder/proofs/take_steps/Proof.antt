@@ -3,7 +3,7 @@
 use denote.Ref.{now}
 use native.Mathlib.Omega.{arith}
 use lib.ListN.{length-drop}
-use Rattle.recorder.proofs.StepLaws.{taken-within, taken-room, taken-count, length-rest, both-within, both-room, steps-taken}
+use Rattle.recorder.proofs.StepLaws.{taken-within, taken-room, taken-fits, taken-count, length-rest, both-within, both-room, steps-taken}
 use borrow.Author.Needs.{needs}
 use Rattle.recorder.proofs.take_steps.Statement.{statement}
 use Rattle.recorder.proofs.take_steps.Tie as tie
@@ -12,43 +12,19 @@ advance-requires : tie.Need-advance-requires
 advance-requires c κs = search needs
 
 sub-advance : tie.Need-sub-advance
-sub-advance c =
-    let a = c .before .before .before .before .before .before .before .args in
-    let p = c .before .before .before .before .before .before .before .pre in
-    let t = c .before .before .before .advance .ensures in
-    let w = taken-within (a .bench) (now (a .bytes)) _ _ _ _ t in
-    let r = taken-room (a .bench) (now (a .bytes)) _ _ _ _ t in
-    omega (arith, w, r, p)
+sub-advance c = taken-within (c .before .before .before .before .before .before .before .args .bench) (now (c .before .before .before .before .before .before .before .args .bytes)) _ _ _ _ (c .before .before .before .advance .ensures)
 
 part-advance-start : tie.Need-part-advance-start
-part-advance-start c =
-    let a = c .before .before .before .before .before .before .before .args in
-    let p = c .before .before .before .before .before .before .before .pre in
-    let t = c .before .before .before .advance .ensures in
-    let w = taken-within (a .bench) (now (a .bytes)) _ _ _ _ t in
-    let r = taken-room (a .bench) (now (a .bytes)) _ _ _ _ t in
-    omega (arith, w, r, p)
+part-advance-start c = taken-within (c .before .before .before .before .before .before .before .args .bench) (now (c .before .before .before .before .before .before .before .args .bytes)) _ _ _ _ (c .before .before .before .advance .ensures)
 
 part-advance-end : tie.Need-part-advance-end
 part-advance-end c = search needs
 
 sub-advance-2 : tie.Need-sub-advance-2
-sub-advance-2 c =
-    let a = c .before .before .before .before .before .before .before .before .args in
-    let p = c .before .before .before .before .before .before .before .before .pre in
-    let t = c .before .before .before .before .advance .ensures in
-    let w = taken-within (a .bench) (now (a .bytes)) _ _ _ _ t in
-    let r = taken-room (a .bench) (now (a .bytes)) _ _ _ _ t in
-    omega (arith, w, r, p)
+sub-advance-2 c = taken-fits (c .before .before .before .before .before .before .before .before .args .bench) (now (c .before .before .before .before .before .before .before .before .args .bytes)) _ _ _ _ (c .before .before .before .before .advance .ensures) (c .before .before .before .before .before .before .before .before .pre .0)
 
 part-advance-start-2 : tie.Need-part-advance-start-2
-part-advance-start-2 c =
-    let a = c .before .before .before .before .before .before .before .before .args in
-    let p = c .before .before .before .before .before .before .before .before .pre in
-    let t = c .before .before .before .before .advance .ensures in
-    let w = taken-within (a .bench) (now (a .bytes)) _ _ _ _ t in
-    let r = taken-room (a .bench) (now (a .bytes)) _ _ _ _ t in
-    omega (arith, w, r, p)
+part-advance-start-2 c = taken-fits (c .before .before .before .before .before .before .before .before .args .bench) (now (c .before .before .before .before .before .before .before .before .args .bytes)) _ _ _ _ (c .before .before .before .before .advance .ensures) (c .before .before .before .before .before .before .before .before .pre .0)
 
 part-advance-end-2 : tie.Need-part-advance-end-2
 part-advance-end-2 c = search needs
@@ -58,21 +34,14 @@ advance-requires-2 c κs = search needs
 
 add-t13 : tie.Need-add-t13
 add-t13 c =
-    let a = c .before .before .before .before .before .before .before .before .before .before .before .before .before .before .args in
-    let p = c .before .before .before .before .before .before .before .before .before .before .before .before .before .before .pre in
-    let t = c .before .before .before .before .before .before .before .before .before .before .advance .ensures in
-    let w = both-within (a .bench) (now (a .bytes)) _ _ _ _ _ _ _ t (c .before .before .before .before .advance2 .ensures) in
-    let r = both-room (a .bench) (now (a .bytes)) _ _ _ _ _ _ _ t (c .before .before .before .before .advance2 .ensures) in
-    omega (arith, w, p)
+    let within = both-within (c .before .before .before .before .before .before .before .before .before .before .before .before .before .before .args .bench) (now (c .before .before .before .before .before .before .before .before .before .before .before .before .before .before .args .bytes)) _ _ _ _ _ _ _ (c .before .before .before .before .before .before .before .before .before .before .advance .ensures) (c .before .before .before .before .advance2 .ensures) in
+    omega (arith, within, c .before .before .before .before .before .before .before .before .before .before .before .before .before .before .pre)
 
 add-t17 : tie.Need-add-t17
 add-t17 c =
-    let a = c .before .before .before .before .before .before .before .before .before .before .before .before .before .before .before .args in
-    let p = c .before .before .before .before .before .before .before .before .before .before .before .before .before .before .before .pre in
-    let t = c .before .before .before .before .before .before .before .before .before .before .before .advance .ensures in
-    let w = both-within (a .bench) (now (a .bytes)) _ _ _ _ _ _ _ t (c .before .before .before .before .before .advance2 .ensures) in
-    let r = both-room (a .bench) (now (a .bytes)) _ _ _ _ _ _ _ t (c .before .before .before .before .before .advance2 .ensures) in
-    omega (arith, w, r, p, c .before .before .before .before .before .before .before .before .before .before .before .before .before .before .before .good .1 .1 .0 .0)
+    let within = both-within (c .before .before .before .before .before .before .before .before .before .before .before .before .before .before .before .args .bench) (now (c .before .before .before .before .before .before .before .before .before .before .before .before .before .before .before .args .bytes)) _ _ _ _ _ _ _ (c .before .before .before .before .before .before .before .before .before .before .before .advance .ensures) (c .before .before .before .before .before .advance2 .ensures) in
+    let room = both-room (c .before .before .before .before .before .before .before .before .before .before .before .before .before .before .before .args .bench) (now (c .before .before .before .before .before .before .before .before .before .before .before .before .before .before .before .args .bytes)) _ _ _ _ _ _ _ (c .before .before .before .before .before .before .before .before .before .before .before .advance .ensures) (c .before .before .before .before .before .advance2 .ensures) in
+    omega (arith, within, room, c .before .before .before .before .before .before .before .before .before .before .before .before .before .before .before .pre, c .before .before .before .before .before .before .before .before .before .before .before .before .before .before .before .good .1 .1 .0 .0)
 
 same-length : tie.Need-same-length
 same-length c = search needs
