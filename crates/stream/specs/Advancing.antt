@@ -139,11 +139,11 @@ module _ (bytes more : List ℕ) where
   open-cut e =
       let t : TableRead = readTable bytes in
       let none : t .used ≡ 0 = refused-used bytes (λ q. omega arith) in
-      ap₂ (λ (l : List ℕ) (n : ℕ). l ++ left (opened t) (drop n bytes ++ more)) quiet none
+      ap₂ (λ (l : List ℕ) (n : ℕ). l ++ left (opened t) (drop n bytes ++ more)) no-line none
       ∙ left-open (opened t) (bytes ++ more) e
     where
-      quiet : opening (readTable bytes) .lines ≡ []
-      quiet = simp (e)
+      no-line : opening (readTable bytes) .lines ≡ []
+      no-line = simp (e)
 
   open-refused : 2 ≤ readTable bytes .refusal → Lays (opening (readTable bytes)) bytes more (recordOf (bytes ++ more))
   unfolding recordOf
