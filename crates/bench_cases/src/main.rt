@@ -47,10 +47,11 @@ fn run_in_parts(path: &[u8], most: usize, input: &mut InputBuffer, lines: &mut R
     say_recorded(recorded);
 }
 
-// A run on the example whose record goes to a descriptor that is open for reading alone; what it says of that goes to the other one.
-fn run_unwritten(text: &[u8], errors: i32, input: &mut InputBuffer, lines: &mut RecordBuffer) {
-    io::write_all(STDOUT_FILENO, text);
-    let file = os::open_read(b"example");
+// A run on the file whose record goes to a descriptor that is open for reading alone; what it says of that goes to the other one.
+fn run_unwritten(path: &[u8], errors: i32, input: &mut InputBuffer, lines: &mut RecordBuffer) {
+    io::write_all(STDOUT_FILENO, path);
+    io::write_all(STDOUT_FILENO, b", to where nothing can be written:\n");
+    let file = os::open_read(path);
     let recorded = recorder::write_record(file, file, errors, 32768, input, lines);
     libc::close(file);
     say_recorded(recorded);
@@ -75,20 +76,12 @@ fn run_arguments(input: &mut InputBuffer, lines: &mut RecordBuffer) {
     }
 }
 
+// The first write of the example fails at its first part, that of no bytes at the last line; the last run has no place for errors.
 fn main() {
     let mut input = [0; 32768];
     let mut lines = [0; 491610];
     run_arguments(&mut input, &mut lines);
-    run_unwritten(
-        b"example, to where nothing can be written:\n",
-        STDOUT_FILENO,
-        &mut input,
-        &mut lines,
-    );
-    run_unwritten(
-        b"example, with no place for errors:\n",
-        -1,
-        &mut input,
-        &mut lines,
-    );
+    run_unwritten(b"example", STDOUT_FILENO, &mut input, &mut lines);
+    run_unwritten(b"no_bytes", STDOUT_FILENO, &mut input, &mut lines);
+    run_unwritten(b"example", -1, &mut input, &mut lines);
 }
