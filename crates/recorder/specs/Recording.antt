@@ -77,6 +77,13 @@ Ends Ended.NotRead received r = received < mostBytes
 Ends Ended.NotWritten received r = Unit {0}
 Ends Ended.TooLong received r = mostBytes ≤ received
 
+-- what is said of it: 0 nothing, 1 that the input cannot be read, which is so too of one that is too long, 2 that the record cannot be written
+abbrev pub failureOf : Ended → ℕ
+failureOf Ended.Whole = 0
+failureOf Ended.NotRead = 1
+failureOf Ended.TooLong = 1
+failureOf Ended.NotWritten = 2
+
 -- how it may end where no part came
 abbrev pub EndsWithoutPart : Ended → Bench → Type 0
 EndsWithoutPart e r = (received : ℕ) → received < mostBytes → Ends e received r
