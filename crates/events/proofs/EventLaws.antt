@@ -8,8 +8,8 @@ use Prim.Native.Nat.{ℕ, _≤_}
 use native.Mathlib.Omega.{arith}
 use native.Mathlib.Decide.{ℕ-discrete, decLe}
 use lib.ListN.{length}
-use borrow.Author.Tests.{ne-eqb, ltb-false, le-leb, lt-leb}
-use Rattle.basics.specs.Choice.{inside-between}
+use borrow.Author.Tests.{eq-eqb, ne-eqb, ltb-false, le-leb, lt-leb}
+use Rattle.basics.specs.Choice.{between, inside-between}
 use Rattle.basics.specs.Arrays.{at, put, at-put-same, at-put-other, at-out, length-put}
 use Rattle.ranks.specs.Ranks.{limit}
 use Rattle.state.specs.declared.State.{State}
@@ -17,10 +17,10 @@ use Rattle.state.specs.State.{mostObjects, requestedMode, requestedObject, acti
 use Rattle.weights.specs.Keys.{Weigh, keyWeight, keyHolder, keyObject, lowestKeyBy}
 use Rattle.weights.specs.KeyLaws.{key-at}
 use Rattle.rule.specs.Granting.{passesBelow, reason, wakeable}
-use Rattle.events.specs.declared.Answer.the-variants.{Granted, Waits, Done}
+use Rattle.events.specs.declared.Answer.the-variants.{Granted, Waits, Done, Refused}
 use Rattle.refusals.specs.Accepting.{RequestsFit}
-use Rattle.refusals.specs.Refusals.{modeOf}
-use Rattle.events.specs.Events.{outcome, requestMeeting, request, woken, wake, unlock, finish, accepted}
+use Rattle.refusals.specs.Refusals.{modeOf, eventRefusal}
+use Rattle.events.specs.Events.{outcome, requestMeeting, request, woken, wake, unlock, finish, accepted, perform}
 
 -- ---- the rule of each kind
 
@@ -37,9 +37,24 @@ module _ (s : State) (k r o : ℕ) where
   unfolding accepted
   accepted-unlock e = rw e
 
-  pub accepted-finish : 5 ≤ k → accepted s k r o ≡ finish s r
+  pub accepted-finish : 5 ≤ k → k ≤ 6 → accepted s k r o ≡ finish s r
   unfolding accepted
-  accepted-finish a = simp (ne-eqb k 1 (λ e. omega arith), le-leb 2 k (omega arith), lt-leb k 3 (omega arith), ne-eqb k 4 (λ e. omega arith))
+  accepted-finish a b =
+      simp (ne-eqb k 1 (λ e. omega arith), le-leb 2 k (omega arith), lt-leb k 3 (omega arith), ne-eqb k 4 (λ e. omega arith), inside-between 5 6 k a b)
+
+  -- ---- refused, or not
+
+  pub perform-refused : (n : ℕ) → n ≡ eventRefusal s k r o → n ≢ 0 → outcome (Refused n) s ≡ perform s k r o
+  unfolding perform
+  perform-refused n e d = ap (λ (m : ℕ). outcome (Refused m) s) e ∙ sym (simp (ne-eqb (eventRefusal s k r o) 0 (λ z. d (e ∙ z))))
+
+  pub perform-accepted : eventRefusal s k r o ≡ 0 → perform s k r o ≡ accepted s k r o
+  unfolding perform
+  perform-accepted e = simp (eq-eqb (eventRefusal s k r o) 0 e)
+
+  pub perform-unknown : between 1 6 k ≡ false → outcome (Refused 9) s ≡ perform s k r o
+  unfolding perform eventRefusal
+  perform-unknown e = sym (simp e)
 
 -- ---- a request
 

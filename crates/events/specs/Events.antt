@@ -1,16 +1,16 @@
--- What an event that is not refused does (01, "Jobs, objects, events": "Each kind has its own rule"): its answer and the next state.
+-- What an event in a well-formed state does (01, "Jobs, objects, events": "Each kind has its own rule"): its answer and the next state.
 -- Assumes nothing.
 use Prim.Native.Nat.{ℕ}
 use lib.Dec.{eqb}
-use Rattle.basics.specs.Choice.{if_then_else_}
+use Rattle.basics.specs.Choice.{if_then_else_, between}
 use Rattle.state.specs.declared.State.{State}
 use Rattle.state.specs.State.{requestedMode, requestedObject, activate, await, grant, release, endRun}
 use Rattle.weights.specs.Keys.{keyHolder, keyObject, lowestKey}
 use Rattle.rule.specs.Granting.{passesBelow, reason, wakeable}
 use Rattle.events.specs.declared.Outcome.{Outcome}
 use Rattle.events.specs.declared.Answer.{Answer}
-use Rattle.events.specs.declared.Answer.the-variants.{Granted, Waits, Done}
-use Rattle.refusals.specs.Refusals.{isRequest, modeOf}
+use Rattle.events.specs.declared.Answer.the-variants.{Granted, Waits, Done, Refused}
+use Rattle.refusals.specs.Refusals.{isRequest, modeOf, eventRefusal}
 
 abbrev pub outcome : Answer → State → Outcome
 outcome a s = record { answer = a; state = s }
@@ -45,10 +45,19 @@ unlock s r o = wake (release s r o)
 abbrev pub finish : State → ℕ → Outcome
 finish s r = wake (endRun s r)
 
--- an event that is not refused
+-- an event that is not refused; no other kind is one
 unfoldable pub accepted : State → ℕ → ℕ → ℕ → Outcome
 accepted s k r o =
     if eqb k 1 then start s r else
     if isRequest k then request s (modeOf k) r o else
     if eqb k 4 then unlock s r o else
-    finish s r
+    if between 5 6 k then finish s r else
+    outcome (Refused 9) s
+
+-- refused by the number n, or, where n is 0, what the rule says: "A refusal returns the state handed in"
+abbrev pub unlessRefused : ℕ → State → Outcome → Outcome
+unlessRefused n s rule = if eqb n 0 then rule else outcome (Refused n) s
+
+-- an event in a well-formed state
+unfoldable pub perform : State → ℕ → ℕ → ℕ → Outcome
+perform s k r o = unlessRefused (eventRefusal s k r o) s (accepted s k r o)

@@ -1,3 +1,3 @@
--- Events that are not refused: the rules of the six kinds, and the paper's numbers of the answers.
+-- Events in a well-formed state: the rules of the six kinds, and the paper's numbers of the answers.
 pub mod Answers
 pub mod Events

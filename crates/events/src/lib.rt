@@ -1,11 +1,9 @@
-// Events that are not refused, on the parts of a state, in place: one small function for each rule.
+// Events in a well-formed state, on its parts, in place: one small function for each rule, with its refusals.
 ghost use mathlib.Core.Path.{_≡_};
 ghost use mathlib.Core.List.{List};
 ghost use Prim.Native.Nat.{ℕ, _≤_};
-ghost use Rattle.ranks.specs.Ranks.{with};
 ghost use Rattle.state.specs.State.{stateOf};
-ghost use Rattle.events.specs.declared.Answer.the-variants.{Done};
-ghost use Rattle.refusals.specs.Accepting.{RequestsFit, Accepting};
+ghost use Rattle.refusals.specs.Accepting.{RequestsFit, InRange};
 ghost use Rattle.events.specs.Events as E;
 
 mod changes;
@@ -17,7 +15,11 @@ use changes::release_set;
 use changes::release_sets;
 use changes::store_request;
 use ranks::RankSet;
+use refusals::finish_refusal;
+use refusals::lock_refusal;
 use refusals::set_of;
+use refusals::start_refusal;
+use refusals::unlock_refusal;
 use state::JobRequests;
 use state::ObjectSets;
 use state::State;
@@ -37,16 +39,22 @@ pub struct Outcome {
 }
 
 // Kind 1: the job becomes active.
-fn start(active: &mut RankSet, rank: u8) -> Answer
-    requires { ⌜ (1 ≤ rank) × (rank ≤ 64) ⌝ }
-    ensures { λ r. ⌜ (r ≡ Done 0) × (now (active .exit) ≡ with (now (active .entry)) rank) ⌝ }
+fn start(jobs: u8, active: &mut RankSet, rank: u8, object: u8) -> Answer
+    requires { ⌜ jobs ≤ 64 ⌝ }
+    ensures { λ r. ⌜ ((p o u : ℕ) (ps mr mw rs ws q : List ℕ) →
+        E.outcome r (stateOf p jobs o ps mr mw (now (active .exit)) u rs ws q)
+        ≡ E.perform (stateOf p jobs o ps mr mw (now (active .entry)) u rs ws q) 1 rank object) ⌝ }
 {
+    let number = start_refusal(jobs, *active, rank, object);
+    if number != 0 {
+        return Answer::Refused(number);
+    }
     *active = ranks::with(*active, rank);
     Answer::Done(0)
 }
 
-// Kinds 2 and 3: the job gets the lock on the object in the mode, or waits for it.
-fn lock<'a>(
+// A request that is not refused: the job gets the lock on the object in the mode, or waits for it.
+fn grant_or_wait<'a>(
     objects: u8,
     may_read: &'a ObjectSets,
     may_write: &'a ObjectSets,
@@ -83,6 +91,56 @@ fn lock<'a>(
         object: named,
         reason,
     }
+}
+
+// Kinds 2 and 3: the job gets the lock, or waits for it.
+fn lock<'a>(
+    jobs: u8,
+    objects: u8,
+    may_read: &'a ObjectSets,
+    may_write: &'a ObjectSets,
+    active: RankSet,
+    unlocked: RankSet,
+    readers: &mut ObjectSets,
+    writers: &mut ObjectSets,
+    request: &mut JobRequests,
+    kind: u8,
+    rank: u8,
+    object: u8,
+) -> Answer
+    requires { ⌜ (jobs ≤ 64) × (objects ≤ 128) × (2 ≤ kind) × (kind ≤ 3) ⌝ }
+    ensures { λ r. ⌜ ((p : ℕ) (ps : List ℕ) →
+        E.outcome r (stateOf p jobs objects ps (now («may_read» .entry)) (now («may_write» .entry)) active unlocked (now (readers .exit)) (now (writers .exit)) (now (request .exit)))
+        ≡ E.perform (stateOf p jobs objects ps (now («may_read» .entry)) (now («may_write» .entry)) active unlocked (now (readers .entry)) (now (writers .entry)) (now (request .entry))) kind rank object) ⌝ }
+{
+    let number = lock_refusal(
+        jobs,
+        objects,
+        may_read,
+        may_write,
+        active,
+        unlocked,
+        readers,
+        writers,
+        request,
+        kind,
+        rank,
+        object,
+    );
+    if number != 0 {
+        return Answer::Refused(number);
+    }
+    grant_or_wait(
+        objects,
+        may_read,
+        may_write,
+        readers,
+        writers,
+        request,
+        kind - 1,
+        rank,
+        object,
+    )
 }
 
 // After kinds 4, 5 and 6: the most urgent waiting job whose request passes gets its lock.
@@ -129,6 +187,7 @@ fn unlock<'a>(
     objects: u8,
     may_read: &'a ObjectSets,
     may_write: &'a ObjectSets,
+    active: RankSet,
     unlocked: &mut RankSet,
     readers: &mut ObjectSets,
     writers: &mut ObjectSets,
@@ -136,11 +195,24 @@ fn unlock<'a>(
     rank: u8,
     object: u8,
 ) -> Answer
-    requires { ⌜ (jobs ≤ 64) × (objects ≤ 128) × (1 ≤ rank) × (rank ≤ 64) × (1 ≤ object) × (object ≤ 128) × RequestsFit (now request) ⌝ }
-    ensures { λ r. ⌜ ((p a : ℕ) (ps : List ℕ) →
-        E.outcome r (stateOf p jobs objects ps (now («may_read» .entry)) (now («may_write» .entry)) a (now (unlocked .exit)) (now (readers .exit)) (now (writers .exit)) (now (request .exit)))
-        ≡ E.unlock (stateOf p jobs objects ps (now («may_read» .entry)) (now («may_write» .entry)) a (now (unlocked .entry)) (now (readers .entry)) (now (writers .entry)) (now (request .entry))) rank object) ⌝ }
+    requires { ⌜ InRange jobs objects (now request) ⌝ }
+    ensures { λ r. ⌜ ((p : ℕ) (ps : List ℕ) →
+        E.outcome r (stateOf p jobs objects ps (now («may_read» .entry)) (now («may_write» .entry)) active (now (unlocked .exit)) (now (readers .exit)) (now (writers .exit)) (now (request .exit)))
+        ≡ E.perform (stateOf p jobs objects ps (now («may_read» .entry)) (now («may_write» .entry)) active (now (unlocked .entry)) (now (readers .entry)) (now (writers .entry)) (now (request .entry))) 4 rank object) ⌝ }
 {
+    let number = unlock_refusal(
+        jobs,
+        objects,
+        active,
+        readers,
+        writers,
+        request,
+        rank,
+        object,
+    );
+    if number != 0 {
+        return Answer::Refused(number);
+    }
     *unlocked = ranks::with(*unlocked, rank);
     release_set(readers, rank, object);
     release_set(writers, rank, object);
@@ -155,8 +227,8 @@ fn unlock<'a>(
     )
 }
 
-// Kinds 5 and 6: the job's run ends, with its locks and its request.
-fn finish<'a>(
+// The job's run ends, with its locks and its request.
+fn end_run<'a>(
     jobs: u8,
     objects: u8,
     may_read: &'a ObjectSets,
@@ -189,7 +261,45 @@ fn finish<'a>(
     )
 }
 
-// An event that is not refused.
+// Kinds 5 and 6: the job's run ends; an abandonment also ends that of a waiting job.
+fn finish<'a>(
+    jobs: u8,
+    objects: u8,
+    may_read: &'a ObjectSets,
+    may_write: &'a ObjectSets,
+    active: &mut RankSet,
+    unlocked: &mut RankSet,
+    readers: &mut ObjectSets,
+    writers: &mut ObjectSets,
+    request: &mut JobRequests,
+    kind: u8,
+    rank: u8,
+    object: u8,
+) -> Answer
+    requires { ⌜ InRange jobs objects (now request) × (5 ≤ kind) × (kind ≤ 6) ⌝ }
+    ensures { λ r. ⌜ ((p : ℕ) (ps : List ℕ) →
+        E.outcome r (stateOf p jobs objects ps (now («may_read» .entry)) (now («may_write» .entry)) (now (active .exit)) (now (unlocked .exit)) (now (readers .exit)) (now (writers .exit)) (now (request .exit)))
+        ≡ E.perform (stateOf p jobs objects ps (now («may_read» .entry)) (now («may_write» .entry)) (now (active .entry)) (now (unlocked .entry)) (now (readers .entry)) (now (writers .entry)) (now (request .entry))) kind rank object) ⌝ }
+{
+    let number = finish_refusal(jobs, *active, request, kind, rank, object);
+    if number != 0 {
+        return Answer::Refused(number);
+    }
+    end_run(
+        jobs,
+        objects,
+        may_read,
+        may_write,
+        active,
+        unlocked,
+        readers,
+        writers,
+        request,
+        rank,
+    )
+}
+
+// An event in a well-formed state: the rule of its kind; 9 where it has none.
 pub fn perform<'a>(
     jobs: u8,
     objects: u8,
@@ -204,21 +314,24 @@ pub fn perform<'a>(
     rank: u8,
     object: u8,
 ) -> Answer
-    requires { ⌜ Accepting jobs objects (now request) kind rank object ⌝ }
+    requires { ⌜ InRange jobs objects (now request) ⌝ }
     ensures { λ r. ⌜ ((p : ℕ) (ps : List ℕ) →
         E.outcome r (stateOf p jobs objects ps (now («may_read» .entry)) (now («may_write» .entry)) (now (active .exit)) (now (unlocked .exit)) (now (readers .exit)) (now (writers .exit)) (now (request .exit)))
-        ≡ E.accepted (stateOf p jobs objects ps (now («may_read» .entry)) (now («may_write» .entry)) (now (active .entry)) (now (unlocked .entry)) (now (readers .entry)) (now (writers .entry)) (now (request .entry))) kind rank object) ⌝ }
+        ≡ E.perform (stateOf p jobs objects ps (now («may_read» .entry)) (now («may_write» .entry)) (now (active .entry)) (now (unlocked .entry)) (now (readers .entry)) (now (writers .entry)) (now (request .entry))) kind rank object) ⌝ }
 {
     match kind {
-        1 => start(active, rank),
+        1 => start(jobs, active, rank, object),
         2 | 3 => lock(
+            jobs,
             objects,
             may_read,
             may_write,
+            *active,
+            *unlocked,
             readers,
             writers,
             request,
-            kind - 1,
+            kind,
             rank,
             object,
         ),
@@ -227,6 +340,7 @@ pub fn perform<'a>(
             objects,
             may_read,
             may_write,
+            *active,
             unlocked,
             readers,
             writers,
@@ -244,7 +358,9 @@ pub fn perform<'a>(
             readers,
             writers,
             request,
+            kind,
             rank,
+            object,
         ),
         0 | 7..=255 => Answer::Refused(9),
     }

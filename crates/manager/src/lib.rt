@@ -7,13 +7,13 @@ use events::Answer;
 use events::Outcome;
 use events::perform;
 use ranks::RankSet;
-use refusals::refusal;
 use state::JobProcessors;
 use state::JobRequests;
 use state::ObjectSets;
 use state::State;
+use state::fits;
 
-// An event: the refusal's number and nothing changed, or what its kind's rule does.
+// An event: refused by 8 and nothing changed where the state is not well formed; else what is refused or done by its kind's rule.
 pub fn act<'a>(
     processors: u8,
     jobs: u8,
@@ -33,7 +33,7 @@ pub fn act<'a>(
     ensures { λ r. ⌜ outcome r (stateOf processors jobs objects (now («processor_of» .entry)) (now («may_read» .entry)) (now («may_write» .entry)) (now (active .exit)) (now (unlocked .exit)) (now (readers .exit)) (now (writers .exit)) (now (request .exit)))
         ≡ step (stateOf processors jobs objects (now («processor_of» .entry)) (now («may_read» .entry)) (now («may_write» .entry)) (now (active .entry)) (now (unlocked .entry)) (now (readers .entry)) (now (writers .entry)) (now (request .entry))) kind rank object ⌝ }
 {
-    let number = refusal(
+    if !fits(
         processors,
         jobs,
         objects,
@@ -45,12 +45,8 @@ pub fn act<'a>(
         readers,
         writers,
         request,
-        kind,
-        rank,
-        object,
-    );
-    if number != 0 {
-        return Answer::Refused(number);
+    ) {
+        return Answer::Refused(8);
     }
     perform(
         jobs,

@@ -1,4 +1,4 @@
--- What an event that is not refused may count on: its numbers are in range, and so are those of the waiting jobs' requests.
+-- What an event or a question in a well-formed state may count on: the table's counts are in range, and so are the waiting jobs' requests.
 -- Assumes nothing.
 use mathlib.Core.Path.{_≡_}
 use mathlib.Core.Logic.{_≢_}
@@ -21,12 +21,9 @@ use Rattle.refusals.specs.Refusals.{objectAllowed, eventRefusal, refusal
 abbrev pub RequestsFit : List ℕ → Type 0
 RequestsFit requests = (r : ℕ) → 1 ≤ r → r ≤ limit → at requests r ≢ 0 → (1 ≤ objectIn (at requests r)) × (objectIn (at requests r) ≤ mostObjects)
 
-pub record Accepting (jobs objects : ℕ) (requests : List ℕ) (k r o : ℕ) : Type 0 where
+pub record InRange (jobs objects : ℕ) (requests : List ℕ) : Type 0 where
   pub jobs-fit : jobs ≤ limit
   pub objects-fit : objects ≤ mostObjects
-  pub kind : (1 ≤ k) × (k ≤ 6)
-  pub rank : (1 ≤ r) × (r ≤ limit)
-  pub object : between 2 4 k ≡ true → (1 ≤ o) × (o ≤ mostObjects)
   pub requests-fit : RequestsFit requests
 
 requested-object : (s : State) (m r o : ℕ) → mayAwait s m r o ≡ true → isObject s o ≡ true
@@ -47,24 +44,20 @@ well-requests s w r a b d =
     let o = between-true 1 (s .objects) (requestedObject s r) (requested-object s (requestedMode s r) r (requestedObject s r) fit) in
     (o .0, omega (arith, o .1, n .objects))
 
-pub accepting : (s : State) (k r o : ℕ) → refusal s k r o ≡ 0 → Accepting (s .jobs) (s .objects) (s .request) k r o
-unfolding refusal eventRefusal
-accepting s k r o e =
-    let e8 = if-zero 7 (not (wellFormed s)) _ e in
-    let e9 = if-zero 8 (not (between 1 6 k)) _ (e8 .1) in
-    let e10 = if-zero 9 (not (isRank s r)) _ (e9 .1) in
-    let e11 = if-zero 10 (not (objectAllowed (s .objects) k o)) _ (e10 .1) in
-    let w = not-false (wellFormed s) (e8 .0) in
+pub in-range : (s : State) → wellFormed s ≡ true → InRange (s .jobs) (s .objects) (s .request)
+in-range s w =
     let n = counts-within (s .processors) (s .jobs) (s .objects) (clauses s w .counts) in
+    record { jobs-fit = n .jobs .1; objects-fit = n .objects .1; requests-fit = well-requests s w }
+
+-- an event that is not refused has a rank of the table, and an object that its kind may carry
+pub accepted-numbers : (s : State) (k r o : ℕ) → eventRefusal s k r o ≡ 0 → (1 ≤ r) × (r ≤ s .jobs) × (objectAllowed s k o ≡ true)
+unfolding eventRefusal
+accepted-numbers s k r o e =
+    let e9 = if-zero 8 (not (between 1 6 k)) _ e in
+    let e10 = if-zero 9 (not (isRank s r)) _ (e9 .1) in
+    let e11 = if-zero 10 (not (objectAllowed s k o)) _ (e10 .1) in
     let rank = between-true 1 (s .jobs) r (not-false (isRank s r) (e10 .0)) in
-    record {
-      jobs-fit = n .jobs .1;
-      objects-fit = n .objects .1;
-      kind = between-true 1 6 k (not-false (between 1 6 k) (e9 .0));
-      rank = (rank .0, omega (arith, rank .1, n .jobs));
-      object = λ b. (let z = between-true 1 (s .objects) o (simp b at (not-false (objectAllowed (s .objects) k o) (e11 .0))) in (z .0, omega (arith, z .1, n .objects)));
-      requests-fit = well-requests s w;
-    }
+    (rank .0, rank .1, not-false (objectAllowed s k o) (e11 .0))
 
 -- ---- what a question that is not refused may count on
 

@@ -1,12 +1,12 @@
 -- The refusals 8 to 19 of events and questions (01, "Refusals by who can cause them"): "Order: 8, then as numbered."
 -- Assumes nothing.
 use Prim.Native.Nat.{ℕ, _-_}
-use mathlib.Core.Bool.{Bool, not, _&&_, _||_}
+use mathlib.Core.Bool.{Bool, not, _&&_}
 use lib.Dec.{eqb, ltb}
 use Rattle.basics.specs.Choice.{if_then_else_, _if_else_, between}
 use Rattle.state.specs.declared.State.{State}
 use Rattle.ranks.specs.Ranks.{member}
-use Rattle.state.specs.State.{read, write, ofMode, isRank, declared, holders, isActive, isWaiting}
+use Rattle.state.specs.State.{isRank, isObject, mayLock, holdsAlready, holdsAny, isActive, isWaiting, hasUnlocked}
 use Rattle.state.specs.WellFormed.{wellFormed}
 
 -- kinds 2 read-lock and 3 write-lock ask for a lock
@@ -17,36 +17,27 @@ isRequest k = between 2 3 k
 abbrev pub modeOf : ℕ → ℕ
 modeOf k = k - 1
 
--- "11 object out of range, or not 0 for kinds 1, 5, 6": what kind k may carry in a table of so many objects
-abbrev pub objectAllowed : ℕ → ℕ → ℕ → Bool
-objectAllowed objects k o = if between 2 4 k then between 1 objects o else eqb o 0
+-- "11 object out of range, or not 0 for kinds 1, 5, 6": what kind k may carry
+abbrev pub objectAllowed : State → ℕ → ℕ → Bool
+objectAllowed s k o = if between 2 4 k then isObject s o else eqb o 0
 
--- "15 lock after an unlock; 16 lock whose right is not declared; 17 that lock or the write lock already held; 18 unlock of a lock not held":
--- of kind k for rank r on an object with these sets, r's mark of unlocking in the set given; 0 if none
-abbrev pub lockRefusal : ℕ → ℕ → ℕ → ℕ → ℕ → ℕ → ℕ → ℕ
-lockRefusal k r unlocked mayRead mayWrite readers writers =
-    15 if isRequest k && member unlocked r else
-    16 if isRequest k && not (member (ofMode (modeOf k) mayRead mayWrite) r) else
-    17 if isRequest k && (member (ofMode (modeOf k) readers writers) r || member writers r) else
-    18 if eqb k 4 && not (member readers r || member writers r) else
-    0
-
--- "12 start of an active job; 13 another kind, or a question, for an idle job; 14 kinds 2 to 5 for a waiting job"; else the rest
-abbrev pub jobEventRefusal : ℕ → Bool → Bool → ℕ → ℕ
-jobEventRefusal k active waiting rest =
-    12 if eqb k 1 && active else
-    13 if not (eqb k 1) && not active else
-    14 if between 2 5 k && waiting else
-    rest
-
--- "9 kind not 1 to 6; 10 rank not 1 to the job count; 11 ..", then as numbered: of an event in a well-formed state, 0 if it is accepted
+-- "9 kind not 1 to 6; 10 rank not 1 to the job count; 11 object out of range, or not 0 for kinds 1, 5, 6.
+-- 12 start of an active job; 13 another kind, or a question, for an idle job; 14 kinds 2 to 5 for a waiting job.
+-- 15 lock after an unlock; 16 lock whose right is not declared; 17 that lock or the write lock already held; 18 unlock of a lock not held."
+-- Of an event in a well-formed state, 0 if it is accepted.
 unfoldable pub eventRefusal : State → ℕ → ℕ → ℕ → ℕ
 eventRefusal s k r o =
     9 if not (between 1 6 k) else
     10 if not (isRank s r) else
-    11 if not (objectAllowed (s .objects) k o) else
-    jobEventRefusal k (isActive s r) (isWaiting s r)
-    (lockRefusal k r (s .unlocked) (declared s read o) (declared s write o) (holders s read o) (holders s write o))
+    11 if not (objectAllowed s k o) else
+    12 if eqb k 1 && isActive s r else
+    13 if not (eqb k 1) && not (isActive s r) else
+    14 if between 2 5 k && isWaiting s r else
+    15 if isRequest k && hasUnlocked s r else
+    16 if isRequest k && not (mayLock s (modeOf k) r o) else
+    17 if isRequest k && holdsAlready s (modeOf k) r o else
+    18 if eqb k 4 && not (holdsAny s r o) else
+    0
 
 -- the number of an event's refusal, 0 if it is accepted
 unfoldable pub refusal : State → ℕ → ℕ → ℕ → ℕ

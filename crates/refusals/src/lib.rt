@@ -1,17 +1,17 @@
 // The refusals of events and questions, on the parts of a state. A refusal is its number, and 0 is none.
 ghost use mathlib.Core.Path.{_≡_};
-ghost use mathlib.Core.Bool.{true};
-ghost use mathlib.Core.List.{[]};
-ghost use Prim.Native.Nat.{_≤_};
+ghost use mathlib.Core.Bool.{true, not};
+ghost use mathlib.Core.List.{List};
+ghost use Prim.Native.Nat.{ℕ, _≤_};
+ghost use lib.Dec.{eqb};
 ghost use Rattle.basics.specs.Choice.{_if_else_};
 ghost use Rattle.basics.specs.Arrays.{at};
 ghost use Rattle.state.specs.State.{stateOf};
 ghost use Rattle.refusals.specs.Refusals as R;
+ghost use Rattle.refusals.specs.Parts as P;
 use ranks::RankSet;
-use state::JobProcessors;
 use state::JobRequests;
 use state::ObjectSets;
-use state::fits;
 use state::of_mode;
 use state::within;
 
@@ -33,19 +33,40 @@ pub fn set_of(sets: &ObjectSets, object: u8) -> RankSet
     sets[(object - 1) as usize]
 }
 
-// Whether an event of the kind may carry the object.
-fn object_allowed(objects: u8, kind: u8, object: u8) -> bool
-    ensures { λ r. ⌜ r ≡ R.objectAllowed objects kind object ⌝ }
+// 13 and 14, of an event other than a start, for a rank that is active or not, and that waits where this kind must not, or not.
+fn job_event_refusal(active: bool, waiting: bool, rest: u8) -> u8
+    ensures { λ r. ⌜ r ≡ (13 if not active else 14 if waiting else rest) ⌝ }
 {
-    if within(2, 4, kind) {
-        return within(1, objects, object);
-    }
-    object == 0
+    refused_if(13, !active, refused_if(14, waiting, rest))
 }
 
-// 15 to 18, of an event for a rank on an object with these sets.
-fn lock_refusal(
-    kind: u8,
+// Whether the rank has a request that waits.
+fn is_waiting(request: &JobRequests, rank: u8) -> bool
+    requires { ⌜ (1 ≤ rank) × (rank ≤ 64) ⌝ }
+    ensures { λ r. ⌜ r ≡ not (eqb (at (now (request .entry)) rank) 0) ⌝ }
+{
+    request[(rank - 1) as usize] != 0
+}
+
+// 10 to 12, of a start.
+pub fn start_refusal(jobs: u8, active: RankSet, rank: u8, object: u8) -> u8
+    requires { ⌜ jobs ≤ 64 ⌝ }
+    ensures { λ r. ⌜ ((p o u : ℕ) (ps mr mw rs ws q : List ℕ) →
+        r ≡ R.eventRefusal (stateOf p jobs o ps mr mw active u rs ws q) 1 rank object) ⌝ }
+{
+    if !within(1, jobs, rank) {
+        return 10;
+    }
+    refused_if(
+        11,
+        object != 0,
+        refused_if(12, ranks::contains(active, rank), 0),
+    )
+}
+
+// 15 to 17, of a request for a lock in the mode by a rank, on an object with these sets.
+fn right_refusal(
+    mode: u8,
     rank: u8,
     unlocked: RankSet,
     may_read: RankSet,
@@ -53,33 +74,19 @@ fn lock_refusal(
     readers: RankSet,
     writers: RankSet,
 ) -> u8
-    requires { ⌜ (1 ≤ kind) × (1 ≤ rank) × (rank ≤ 64) ⌝ }
-    ensures { λ r. ⌜ r ≡ R.lockRefusal kind rank unlocked «may_read» «may_write» readers writers ⌝ }
+    requires { ⌜ (1 ≤ rank) × (rank ≤ 64) ⌝ }
+    ensures { λ r. ⌜ r ≡ P.rightRefusal mode rank unlocked «may_read» «may_write» readers writers ⌝ }
 {
-    let request = within(2, 3, kind);
-    let right = ranks::contains(of_mode(kind - 1, may_read, may_write), rank);
-    let same = ranks::contains(of_mode(kind - 1, readers, writers), rank);
-    let read = ranks::contains(readers, rank);
+    let right = ranks::contains(of_mode(mode, may_read, may_write), rank);
+    let same = ranks::contains(of_mode(mode, readers, writers), rank);
     let written = ranks::contains(writers, rank);
-    let marked = ranks::contains(unlocked, rank);
-    let not_held = refused_if(18, (kind == 4) & !(read | written), 0);
-    let held = refused_if(17, request & (same | written), not_held);
-    let no_right = refused_if(16, request & !right, held);
-    refused_if(15, request & marked, no_right)
+    let held = refused_if(17, same | written, 0);
+    let no_right = refused_if(16, !right, held);
+    refused_if(15, ranks::contains(unlocked, rank), no_right)
 }
 
-// 12 to 14, of an event for a rank that is active or not, waiting or not.
-fn job_event_refusal(kind: u8, active: bool, waiting: bool, rest: u8) -> u8
-    ensures { λ r. ⌜ r ≡ R.jobEventRefusal kind active waiting rest ⌝ }
-{
-    let start = kind == 1;
-    let waits = refused_if(14, within(2, 5, kind) & waiting, rest);
-    let idle = refused_if(13, !start & !active, waits);
-    refused_if(12, start & active, idle)
-}
-
-// 9 to 18, of an event in a well-formed state.
-fn event_refusal<'a>(
+// 10, 11 and 13 to 17, of a request for a lock: kind 2 to read, 3 to write.
+pub fn lock_refusal<'a>(
     jobs: u8,
     objects: u8,
     may_read: &'a ObjectSets,
@@ -93,22 +100,19 @@ fn event_refusal<'a>(
     rank: u8,
     object: u8,
 ) -> u8
-    requires { ⌜ (jobs ≤ 64) × (objects ≤ 128) ⌝ }
-    ensures { λ r. ⌜ r ≡ R.eventRefusal (stateOf 0 jobs objects [] (now («may_read» .entry)) (now («may_write» .entry)) active unlocked
-        (now (readers .entry)) (now (writers .entry)) (now (request .entry))) kind rank object ⌝ }
+    requires { ⌜ (jobs ≤ 64) × (objects ≤ 128) × (2 ≤ kind) × (kind ≤ 3) ⌝ }
+    ensures { λ r. ⌜ ((p : ℕ) (ps : List ℕ) →
+        r ≡ R.eventRefusal (stateOf p jobs objects ps (now («may_read» .entry)) (now («may_write» .entry)) active unlocked
+        (now (readers .entry)) (now (writers .entry)) (now (request .entry))) kind rank object) ⌝ }
 {
-    if !within(1, 6, kind) {
-        return 9;
-    }
     if !within(1, jobs, rank) {
         return 10;
     }
-    if !object_allowed(objects, kind, object) {
+    if !within(1, objects, object) {
         return 11;
     }
-    let asked = request[(rank - 1) as usize];
-    let on_lock = lock_refusal(
-        kind,
+    let right = right_refusal(
+        kind - 1,
         rank,
         unlocked,
         set_of(may_read, object),
@@ -116,58 +120,65 @@ fn event_refusal<'a>(
         set_of(readers, object),
         set_of(writers, object),
     );
-    job_event_refusal(kind, ranks::contains(active, rank), asked != 0, on_lock)
+    job_event_refusal(
+        ranks::contains(active, rank),
+        is_waiting(request, rank),
+        right,
+    )
 }
 
-// 8 to 18, of an event.
-pub fn refusal<'a>(
-    processors: u8,
+// 10, 11, 13, 14 and 18, of an unlock.
+pub fn unlock_refusal<'a>(
     jobs: u8,
     objects: u8,
-    processor_of: &'a JobProcessors,
-    may_read: &'a ObjectSets,
-    may_write: &'a ObjectSets,
     active: RankSet,
-    unlocked: RankSet,
     readers: &'a ObjectSets,
     writers: &'a ObjectSets,
     request: &'a JobRequests,
+    rank: u8,
+    object: u8,
+) -> u8
+    requires { ⌜ (jobs ≤ 64) × (objects ≤ 128) ⌝ }
+    ensures { λ r. ⌜ ((p u : ℕ) (ps mr mw : List ℕ) →
+        r ≡ R.eventRefusal (stateOf p jobs objects ps mr mw active u (now (readers .entry)) (now (writers .entry)) (now (request .entry))) 4 rank object) ⌝ }
+{
+    if !within(1, jobs, rank) {
+        return 10;
+    }
+    if !within(1, objects, object) {
+        return 11;
+    }
+    let read = ranks::contains(set_of(readers, object), rank);
+    let written = ranks::contains(set_of(writers, object), rank);
+    job_event_refusal(
+        ranks::contains(active, rank),
+        is_waiting(request, rank),
+        refused_if(18, !(read | written), 0),
+    )
+}
+
+// 10, 11, 13 and 14, of kind 5, a finish, or kind 6, an abandonment.
+pub fn finish_refusal(
+    jobs: u8,
+    active: RankSet,
+    request: &JobRequests,
     kind: u8,
     rank: u8,
     object: u8,
 ) -> u8
-    ensures { λ r. ⌜ r ≡ R.refusal (stateOf processors jobs objects (now («processor_of» .entry)) (now («may_read» .entry)) (now («may_write» .entry))
-        active unlocked (now (readers .entry)) (now (writers .entry)) (now (request .entry))) kind rank object ⌝ }
+    requires { ⌜ (jobs ≤ 64) × (5 ≤ kind) × (kind ≤ 6) ⌝ }
+    ensures { λ r. ⌜ ((p o u : ℕ) (ps mr mw rs ws : List ℕ) →
+        r ≡ R.eventRefusal (stateOf p jobs o ps mr mw active u rs ws (now (request .entry))) kind rank object) ⌝ }
 {
-    if !fits(
-        processors,
-        jobs,
-        objects,
-        processor_of,
-        may_read,
-        may_write,
-        active,
-        unlocked,
-        readers,
-        writers,
-        request,
-    ) {
-        return 8;
+    if !within(1, jobs, rank) {
+        return 10;
     }
-    event_refusal(
-        jobs,
-        objects,
-        may_read,
-        may_write,
-        active,
-        unlocked,
-        readers,
-        writers,
-        request,
-        kind,
-        rank,
-        object,
-    )
+    let job = job_event_refusal(
+        ranks::contains(active, rank),
+        (kind == 5) & is_waiting(request, rank),
+        0,
+    );
+    refused_if(11, object != 0, job)
 }
 
 // 8, 10 and 13, of a question for a job in a state that is well formed or not.

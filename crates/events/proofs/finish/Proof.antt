@@ -1,50 +1,49 @@
--- `events::finish` meets its contract: the parts that it changes are those of the state after the run's end, and that of the wake follows.
+-- `events::finish` meets its contract: refused, or the rank is in range and its run ends.
 -- Assumes nothing.
 use denote.Ref.{now}
-use mathlib.Core.Path.{sym, subst, _∙_}
-use Rattle.state.specs.State.{stateOf, endRun}
-use Rattle.refusals.specs.Accepting.{RequestsFit}
+use mathlib.Core.Path.{_≡_, refl, sym, _∙_}
+use mathlib.Core.List.{List, []}
+use Prim.Native.Nat.{ℕ, _≤_}
+use native.Mathlib.Omega.{arith}
+use Rattle.basics.specs.Choice.{between-true, inside-between}
+use Rattle.ranks.specs.Ranks.{limit}
+use Rattle.state.specs.declared.State.{State}
+use Rattle.state.specs.State.{mostObjects, stateOf, release}
+use Rattle.refusals.specs.Accepting.{accepted-numbers}
+use Rattle.refusals.specs.Refusals.{eventRefusal}
 use Rattle.events.specs.Events as E
-use Rattle.events.proofs.EventLaws.{dropped-fits}
+use Rattle.events.proofs.EventLaws as L
 use borrow.Author.Needs.{needs}
 use Rattle.events.proofs.finish.Statement.{statement}
 use Rattle.events.proofs.finish.Tie as tie
 
-without-requires : tie.Need-without-requires
-without-requires c κs = search needs
+-- the state that the parts are of, with any other parts
+abbrev whole : (c : tie.Start) → ℕ → List ℕ → State
+whole c p ps = let a = c .args in
+    stateOf p (a .jobs) (a .objects) ps (now (a .may-read)) (now (a .may-write)) (now (a .active)) (now (a .unlocked)) (now (a .readers)) (now (a .writers)) (now (a .request))
 
-without-requires-2 : tie.Need-without-requires-2
-without-requires-2 c κs = search needs
-
-release-sets-requires : tie.Need-release-sets-requires
-release-sets-requires c κs = search needs
-
-release-sets-requires-2 : tie.Need-release-sets-requires-2
-release-sets-requires-2 c κs = search needs
-
-store-request-requires : tie.Need-store-request-requires
-store-request-requires c κs = search needs
-
-wake-requires : tie.Need-wake-requires
-wake-requires c κs =
-    let a = c .before .before .before .before .before .before .before .before .before .before .before .before .before .args in
-    (c .before .before .before .before .before .before .before .before .before .before .before .before .before .pre .0, c .before .before .before .before .before .before .before .before .before .before .before .before .before .pre .1, subst RequestsFit (sym (c .before .before .before .store-request .ensures)) (dropped-fits (now (a .request)) (a .rank) (c .before .before .before .before .before .before .before .before .before .before .before .before .before .pre .2) (c .before .before .before .before .before .before .before .before .before .before .before .before .before .pre .4)))
+finish-refusal-requires : tie.Need-finish-refusal-requires
+finish-refusal-requires c κs = search needs
 
 returns : tie.Need-returns
-unfolding endRun
-returns c =
-    let a = c .before .before .before .before .before .before .before .before .before .before .before .before .before .before .args in
-    λ p ps. c .wake .ensures p (c .before .before .before .before .before .before .before .before .before .before .before .before .without .result) (c .before .before .before .before .before .before .before .before .before .before .without2 .result) ps
-    ∙ (λ i. E.wake (stateOf p (a .jobs) (a .objects) ps (now (a .may-read)) (now (a .may-write)) (c .before .before .before .before .before .before .before .before .before .before .before .before .without .ensures i) (c .before .before .before .before .before .before .before .before .before .before .without2 .ensures i) (c .before .before .before .before .before .before .before .before .release-sets .ensures i) (c .before .before .before .before .before .before .release-sets2 .ensures i) (c .before .before .before .before .store-request .ensures i)))
+returns c = 
+    let a = c .before .before .before .before .args in
+    λ p ps. L.perform-refused (whole ((c .before .before .before .before)) p ps) (a .kind) (a .rank) (a .object) (c .before .finish-refusal .result) (c .before .finish-refusal .ensures p (a .objects) (now (a .unlocked)) ps (now (a .may-read)) (now (a .may-write)) (now (a .readers)) (now (a .writers))) (c .if1 .taken)
+
+end-run-requires : tie.Need-end-run-requires
+end-run-requires c κs = 
+    let a = c .before .before .before .before .before .before .before .before .before .args in
+    let P = c .before .before .before .before .before .before .before .before .before .pre in
+    let n = accepted-numbers (whole ((c .before .before .before .before .before .before .before .before .before)) 0 []) (a .kind) (a .rank) (a .object) (sym (c .before .before .before .before .before .before .finish-refusal .ensures 0 (a .objects) (now (a .unlocked)) [] (now (a .may-read)) (now (a .may-write)) (now (a .readers)) (now (a .writers))) ∙ c .before .before .before .before .before .if1 .left) in
+    (P .0 .jobs-fit, P .0 .objects-fit, n .0, omega (arith, n .1, P .0 .jobs-fit), P .0 .requests-fit)
+
+returns-2 : tie.Need-returns-2
+returns-2 c = 
+    let a = c .before .before .before .before .before .before .before .before .before .before .args in
+    λ p ps.
+    let s = whole ((c .before .before .before .before .before .before .before .before .before .before)) p ps in
+    c .end-run .ensures p ps
+    ∙ sym (L.perform-accepted s (a .kind) (a .rank) (a .object) (sym (c .before .before .before .before .before .before .before .finish-refusal .ensures p (a .objects) (now (a .unlocked)) ps (now (a .may-read)) (now (a .may-write)) (now (a .readers)) (now (a .writers))) ∙ c .before .before .before .before .before .before .if1 .left) ∙ L.accepted-finish s (a .kind) (a .rank) (a .object) (c .before .before .before .before .before .before .before .before .before .before .pre .1) (c .before .before .before .before .before .before .before .before .before .before .pre .2))
 
 pub finish-spec : {M : Type 1} → statement M
-finish-spec =
-    tie.close
-    (tie.spec
-    without-requires
-    without-requires-2
-    release-sets-requires
-    release-sets-requires-2
-    store-request-requires
-    wake-requires
-    returns)
+finish-spec = tie.close (tie.spec finish-refusal-requires returns end-run-requires returns-2)

@@ -1,111 +1,61 @@
--- `events::lock` meets its contract: the lowest key decides; where it stops the request, it is a lock's, so its holder and object are in range.
+-- `events::lock` meets its contract: refused, or rank and object are in range and the request is granted or waits.
 -- Assumes nothing.
 use denote.Ref.{now}
-use mathlib.Core.Path.{_≡_, sym, ap, _∙_}
-use Prim.Native.Nat.{_≤_}
+use mathlib.Core.Path.{_≡_, refl, sym, _∙_}
+use mathlib.Core.List.{List, []}
+use Prim.Native.Nat.{ℕ, _≤_}
 use native.Mathlib.Omega.{arith}
-use Rattle.basics.specs.Arrays.{at}
+use Rattle.basics.specs.Choice.{between-true, inside-between}
 use Rattle.ranks.specs.Ranks.{limit}
-use Rattle.state.specs.State.{mostObjects, stateOf, grant, await}
-use Rattle.weights.specs.Weights.{weight}
-use Rattle.weights.specs.Keys.{keyHolder, keyObject}
-use Rattle.rule.specs.Granting.{reason, reasonOf}
-use Rattle.weights.specs.Parts.{locksState, lowest-key-parts}
-use Rattle.rule.specs.Parts.{reason-parts}
-use Rattle.events.specs.declared.Answer.the-variants.{Granted, Waits}
-use Rattle.events.specs.Events.{outcome, requestMeeting}
+use Rattle.state.specs.declared.State.{State}
+use Rattle.state.specs.State.{mostObjects, stateOf, release}
+use Rattle.refusals.specs.Accepting.{accepted-numbers}
+use Rattle.refusals.specs.Refusals.{eventRefusal}
+use Rattle.events.specs.Events as E
 use Rattle.events.proofs.EventLaws as L
 use borrow.Author.Needs.{needs}
 use Rattle.events.proofs.lock.Statement.{statement}
 use Rattle.events.proofs.lock.Tie as tie
 
--- what is known where a lock stops the request
-in-range : (c : tie.Else1) → let k = c .before .before .lowest-key .result in (1 ≤ keyHolder k) × (keyHolder k ≤ limit) × (keyObject k ≤ mostObjects)
-in-range c =
-    let t = c .before .before .before .before .before in
-    let a = t .args in
-    let s = locksState (a .objects) (now (a .may-read)) (now (a .may-write)) (now (a .readers)) (now (a .writers)) in
-    L.stopped (weight s) s (a .rank) (c .before .before .lowest-key .result) (c .before .before .lowest-key .ensures)
-    (sym (c .before .passes .ensures) ∙ c .if1 .left) (t .pre .3) (t .pre .0)
+-- the state that the parts are of, with any other parts
+abbrev whole : (c : tie.Start) → ℕ → List ℕ → State
+whole c p ps = let a = c .args in
+    stateOf p (a .jobs) (a .objects) ps (now (a .may-read)) (now (a .may-write)) (a .active) (a .unlocked) (now (a .readers)) (now (a .writers)) (now (a .request))
 
-lowest-key-requires : tie.Need-lowest-key-requires
-lowest-key-requires c κs = search needs
+-- what is known behind the refusals: rank and object are some that the arrays have
+numbers : (c : tie.Start) → eventRefusal (whole c 0 []) (c .args .kind) (c .args .rank) (c .args .object) ≡ 0
+    → (1 ≤ c .args .rank) × (c .args .rank ≤ limit) × (1 ≤ c .args .object) × (c .args .object ≤ mostObjects)
+numbers c e =
+    let n = accepted-numbers (whole c 0 []) (c .args .kind) (c .args .rank) (c .args .object) e in
+    let o = between-true 1 (c .args .objects) (c .args .object) (simp (inside-between 2 4 (c .args .kind) (c .pre .2) (omega (arith, c .pre .3))) at (n .2)) in
+    (n .0, omega (arith, n .1, c .pre), o .0, omega (arith, o .1, c .pre))
 
-passes-requires : tie.Need-passes-requires
-passes-requires c κs = search needs
-
-grant-requires : tie.Need-grant-requires
-grant-requires c κs = search needs
+lock-refusal-requires : tie.Need-lock-refusal-requires
+lock-refusal-requires c κs = search needs
 
 returns : tie.Need-returns
-unfolding grant
-returns c =
-    let b = c .before .before .before .before .before .before .before .before .before .args in
-    let k = c .before .before .before .before .before .before .lowest-key .result in
-    λ p j a u ps.
-    let s = stateOf p j (b .objects) ps (now (b .may-read)) (now (b .may-write)) a u (now (b .readers)) (now (b .writers)) (now (b .request)) in
-    (λ i. outcome Granted (stateOf p j (b .objects) ps (now (b .may-read)) (now (b .may-write)) a u (c .grant .ensures .0 i) (c .grant .ensures .1 i) (c .grant .ensures .2 i)))
-    ∙ sym (L.granted s (b .mode) (b .rank) (b .object) k (sym (c .before .before .before .before .before .passes .ensures) ∙ c .before .before .before .before .if1 .taken))
-    ∙ ap (requestMeeting s (b .mode) (b .rank) (b .object)) (c .before .before .before .before .before .before .lowest-key .ensures ∙ sym (lowest-key-parts s (b .rank)))
+returns c = 
+    let a = c .before .before .before .before .before .args in
+    λ p ps. L.perform-refused (whole ((c .before .before .before .before .before)) p ps) (a .kind) (a .rank) (a .object) (c .before .lock-refusal .result) (c .before .lock-refusal .ensures p ps) (c .if1 .taken)
 
-key-holder-requires : tie.Need-key-holder-requires
-key-holder-requires c κs = search needs
+sub-grant-or-wait : tie.Need-sub-grant-or-wait
+sub-grant-or-wait c = search needs
 
-key-object-requires : tie.Need-key-object-requires
-key-object-requires c κs = search needs
-
-set-of-requires : tie.Need-set-of-requires
-set-of-requires c κs = omega (arith, in-range ((c .before .before .before)), c .before .key-object .ensures)
-
-set-of-requires-2 : tie.Need-set-of-requires-2
-set-of-requires-2 c κs = omega (arith, in-range ((c .before .before .before .before)), c .before .before .key-object .ensures)
-
-reason-requires : tie.Need-reason-requires
-reason-requires c κs =
-    let b = in-range ((c .before .before .before .before .before)) in
-    let h = c .before .before .before .before .key-holder .ensures in
-    (omega arith, omega arith)
-
-mul-store-request : tie.Need-mul-store-request
-mul-store-request c = search needs
-
-add-store-request : tie.Need-add-store-request
-add-store-request c = search needs
-
-store-request-requires : tie.Need-store-request-requires
-store-request-requires c κs = search needs
+grant-or-wait-requires : tie.Need-grant-or-wait-requires
+grant-or-wait-requires c κs = 
+    let P = c .before .before .before .before .before .before .before .before .pre in
+    let n = numbers ((c .before .before .before .before .before .before .before .before)) (sym (c .before .before .before .before .lock-refusal .ensures 0 []) ∙ c .before .before .before .if1 .left) in
+    (P .1, omega (arith, P .3), n .0, n .1, n .2, n .3)
 
 returns-2 : tie.Need-returns-2
-unfolding await
-returns-2 c =
-    let b = c .before .before .before .before .before .before .before .before .before .before .before .before .before .args in
-    let k = c .before .before .before .before .before .before .before .before .before .before .lowest-key .result in
-    let h = c .before .before .before .before .before .before .before .key-holder .ensures in
-    let o = c .before .before .before .before .before .before .key-object .ensures in
-    λ p j a u ps.
-    let s = stateOf p j (b .objects) ps (now (b .may-read)) (now (b .may-write)) a u (now (b .readers)) (now (b .writers)) (now (b .request)) in
-    let why : c .before .before .reason .result ≡ reason s (b .mode) (b .object) (keyHolder k) (keyObject k) =
-    c .before .before .reason .ensures
-    ∙ (λ i. reasonOf (b .mode) (b .object) (h i) (o i) ((c .before .before .before .before .set-of .ensures ∙ ap (at (now (b .writers))) o) i) ((c .before .before .before .set-of2 .ensures ∙ ap (at (now (b .may-write))) o) i))
-    ∙ sym (reason-parts s (b .mode) (b .object) (keyHolder k) (keyObject k)) in
-    (λ i. outcome (Waits (h i) (o i) (why i)) (stateOf p j (b .objects) ps (now (b .may-read)) (now (b .may-write)) a u (now (b .readers)) (now (b .writers)) (c .store-request .ensures i)))
-    ∙ sym (L.waits s (b .mode) (b .rank) (b .object) k (sym (c .before .before .before .before .before .before .before .before .before .passes .ensures) ∙ c .before .before .before .before .before .before .before .before .if1 .left))
-    ∙ ap (requestMeeting s (b .mode) (b .rank) (b .object)) (c .before .before .before .before .before .before .before .before .before .before .lowest-key .ensures ∙ sym (lowest-key-parts s (b .rank)))
+returns-2 c = 
+    let a = c .before .before .before .before .before .before .before .before .before .args in
+    λ p ps.
+    let s = whole ((c .before .before .before .before .before .before .before .before .before)) p ps in
+    c .grant-or-wait .ensures p (a .jobs) (a .active) (a .unlocked) ps
+    ∙ sym (L.perform-accepted s (a .kind) (a .rank) (a .object) (sym (c .before .before .before .before .before .lock-refusal .ensures p ps) ∙ c .before .before .before .before .if1 .left) ∙ L.accepted-lock s (a .kind) (a .rank) (a .object) (c .before .before .before .before .before .before .before .before .before .pre .2) (c .before .before .before .before .before .before .before .before .before .pre .3))
 
 pub lock-spec : {M : Type 1} → statement M
 lock-spec =
     tie.close
-    (tie.spec
-    lowest-key-requires
-    passes-requires
-    grant-requires
-    returns
-    key-holder-requires
-    key-object-requires
-    set-of-requires
-    set-of-requires-2
-    reason-requires
-    mul-store-request
-    add-store-request
-    store-request-requires
-    returns-2)
+    (tie.spec lock-refusal-requires returns sub-grant-or-wait grant-or-wait-requires returns-2)

@@ -1,14 +1,12 @@
--- `manager::act` meets its contract: a refused event leaves every part as it came; behind the refusals stands the rule of the kind.
+-- `manager::act` meets its contract: a state that is not well formed leaves by 8 as it came; in any other the event is that of its kind.
 -- Assumes nothing.
 use denote.Ref.{now}
-use mathlib.Core.Path.{sym, ap, _∙_}
-use Prim.Native.Nat.{ℕ}
+use mathlib.Core.Path.{sym, _∙_}
+use borrow.Author.Tests.{not-true, not-false}
 use Rattle.state.specs.declared.State.{State}
 use Rattle.state.specs.State.{stateOf}
-use Rattle.events.specs.declared.Answer.the-variants.{Refused}
-use Rattle.refusals.specs.Accepting.{accepting}
-use Rattle.events.specs.Events.{outcome}
-use Rattle.manager.specs.Step.{step-refused, step-accepted}
+use Rattle.refusals.specs.Accepting.{in-range}
+use Rattle.manager.specs.Step.{step-8, step-performs}
 use borrow.Author.Needs.{needs}
 use Rattle.manager.proofs.act.Statement.{statement}
 use Rattle.manager.proofs.act.Tie as tie
@@ -19,23 +17,22 @@ whole c = let a = c .args in
     stateOf (a .processors) (a .jobs) (a .objects) (now (a .processor-of)) (now (a .may-read)) (now (a .may-write))
     (now (a .active)) (now (a .unlocked)) (now (a .readers)) (now (a .writers)) (now (a .request))
 
-refusal-requires : tie.Need-refusal-requires
-refusal-requires c κs = search needs
+fits-requires : tie.Need-fits-requires
+fits-requires c κs = search needs
 
 returns : tie.Need-returns
-returns c =
+returns c = 
     let a = c .before .before .before .before .before .before .before .args in
-    ap (λ (n : ℕ). outcome (Refused n) (whole (c .before .before .before .before .before .before .before))) (c .before .refusal .ensures)
-    ∙ sym (step-refused (whole (c .before .before .before .before .before .before .before)) (a .kind) (a .rank) (a .object) (λ e. c .if1 .taken (c .before .refusal .ensures ∙ e)))
+    sym (step-8 (whole ((c .before .before .before .before .before .before .before))) (a .kind) (a .rank) (a .object) (sym (c .before .fits2 .ensures) ∙ not-true (c .before .fits2 .result) (c .if1 .taken)))
 
 perform-requires : tie.Need-perform-requires
-perform-requires c κs = let a = c .before .before .before .before .before .before .before .before .before .before .before .before .args in accepting (whole (c .before .before .before .before .before .before .before .before .before .before .before .before)) (a .kind) (a .rank) (a .object) (sym (c .before .before .before .before .before .before .refusal .ensures) ∙ c .before .before .before .before .before .if1 .left)
+perform-requires c κs = in-range (whole ((c .before .before .before .before .before .before .before .before .before .before .before .before))) (sym (c .before .before .before .before .before .before .fits2 .ensures) ∙ not-false (c .before .before .before .before .before .before .fits2 .result) (c .before .before .before .before .before .if1 .left))
 
 returns-2 : tie.Need-returns-2
-returns-2 c =
+returns-2 c = 
     let a = c .before .before .before .before .before .before .before .before .before .before .before .before .before .args in
     c .perform .ensures (a .processors) (now (a .processor-of))
-    ∙ sym (step-accepted (whole (c .before .before .before .before .before .before .before .before .before .before .before .before .before)) (a .kind) (a .rank) (a .object) (sym (c .before .before .before .before .before .before .before .refusal .ensures) ∙ c .before .before .before .before .before .before .if1 .left))
+    ∙ sym (step-performs (whole ((c .before .before .before .before .before .before .before .before .before .before .before .before .before))) (a .kind) (a .rank) (a .object) (sym (c .before .before .before .before .before .before .before .fits2 .ensures) ∙ not-false (c .before .before .before .before .before .before .before .fits2 .result) (c .before .before .before .before .before .before .if1 .left)))
 
 pub act-spec : {M : Type 1} → statement M
-act-spec = tie.close (tie.spec refusal-requires returns perform-requires returns-2)
+act-spec = tie.close (tie.spec fits-requires returns perform-requires returns-2)

@@ -1,11 +1,9 @@
 -- `refusals::job_event_refusal` meets its contract, by those of its calls.
 -- Assumes nothing.
+
 use borrow.Author.Needs.{needs}
 use Rattle.refusals.proofs.job_event_refusal.Statement.{statement}
 use Rattle.refusals.proofs.job_event_refusal.Tie as tie
-
-within-requires : tie.Need-within-requires
-within-requires c κs = search needs
 
 refused-if-requires : tie.Need-refused-if-requires
 refused-if-requires c κs = search needs
@@ -13,18 +11,8 @@ refused-if-requires c κs = search needs
 refused-if-requires-2 : tie.Need-refused-if-requires-2
 refused-if-requires-2 c κs = search needs
 
-refused-if-requires-3 : tie.Need-refused-if-requires-3
-refused-if-requires-3 c κs = search needs
-
 returns : tie.Need-returns
 returns c = cc
 
 pub job-event-refusal-spec : {M : Type 1} → statement M
-job-event-refusal-spec =
-    tie.close
-    (tie.spec
-    within-requires
-    refused-if-requires
-    refused-if-requires-2
-    refused-if-requires-3
-    returns)
+job-event-refusal-spec = tie.close (tie.spec refused-if-requires refused-if-requires-2 returns)

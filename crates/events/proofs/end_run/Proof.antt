@@ -1,0 +1,50 @@
+-- `events::end_run` meets its contract: the parts that it changes are those of the state after the run's end, and that of the wake follows.
+-- Assumes nothing.
+use denote.Ref.{now}
+use mathlib.Core.Path.{sym, subst, _∙_}
+use Rattle.state.specs.State.{stateOf, endRun}
+use Rattle.refusals.specs.Accepting.{RequestsFit}
+use Rattle.events.specs.Events as E
+use Rattle.events.proofs.EventLaws.{dropped-fits}
+use borrow.Author.Needs.{needs}
+use Rattle.events.proofs.end_run.Statement.{statement}
+use Rattle.events.proofs.end_run.Tie as tie
+
+without-requires : tie.Need-without-requires
+without-requires c κs = search needs
+
+without-requires-2 : tie.Need-without-requires-2
+without-requires-2 c κs = search needs
+
+release-sets-requires : tie.Need-release-sets-requires
+release-sets-requires c κs = search needs
+
+release-sets-requires-2 : tie.Need-release-sets-requires-2
+release-sets-requires-2 c κs = search needs
+
+store-request-requires : tie.Need-store-request-requires
+store-request-requires c κs = search needs
+
+wake-requires : tie.Need-wake-requires
+wake-requires c κs =
+    let a = c .before .before .before .before .before .before .before .before .before .before .before .before .before .args in
+    (c .before .before .before .before .before .before .before .before .before .before .before .before .before .pre .0, c .before .before .before .before .before .before .before .before .before .before .before .before .before .pre .1, subst RequestsFit (sym (c .before .before .before .store-request .ensures)) (dropped-fits (now (a .request)) (a .rank) (c .before .before .before .before .before .before .before .before .before .before .before .before .before .pre .2) (c .before .before .before .before .before .before .before .before .before .before .before .before .before .pre .4)))
+
+returns : tie.Need-returns
+unfolding endRun
+returns c =
+    let a = c .before .before .before .before .before .before .before .before .before .before .before .before .before .before .args in
+    λ p ps. c .wake .ensures p (c .before .before .before .before .before .before .before .before .before .before .before .before .without .result) (c .before .before .before .before .before .before .before .before .before .before .without2 .result) ps
+    ∙ (λ i. E.wake (stateOf p (a .jobs) (a .objects) ps (now (a .may-read)) (now (a .may-write)) (c .before .before .before .before .before .before .before .before .before .before .before .before .without .ensures i) (c .before .before .before .before .before .before .before .before .before .before .without2 .ensures i) (c .before .before .before .before .before .before .before .before .release-sets .ensures i) (c .before .before .before .before .before .before .release-sets2 .ensures i) (c .before .before .before .before .store-request .ensures i)))
+
+pub end-run-spec : {M : Type 1} → statement M
+end-run-spec =
+    tie.close
+    (tie.spec
+    without-requires
+    without-requires-2
+    release-sets-requires
+    release-sets-requires-2
+    store-request-requires
+    wake-requires
+    returns)

@@ -1,0 +1,111 @@
+-- `events::grant_or_wait` meets its contract: the lowest key decides; where it stops the request, it is a lock's, so its holder and object are in range.
+-- Assumes nothing.
+use denote.Ref.{now}
+use mathlib.Core.Path.{_≡_, sym, ap, _∙_}
+use Prim.Native.Nat.{_≤_}
+use native.Mathlib.Omega.{arith}
+use Rattle.basics.specs.Arrays.{at}
+use Rattle.ranks.specs.Ranks.{limit}
+use Rattle.state.specs.State.{mostObjects, stateOf, grant, await}
+use Rattle.weights.specs.Weights.{weight}
+use Rattle.weights.specs.Keys.{keyHolder, keyObject}
+use Rattle.rule.specs.Granting.{reason, reasonOf}
+use Rattle.weights.specs.Parts.{locksState, lowest-key-parts}
+use Rattle.rule.specs.Parts.{reason-parts}
+use Rattle.events.specs.declared.Answer.the-variants.{Granted, Waits}
+use Rattle.events.specs.Events.{outcome, requestMeeting}
+use Rattle.events.proofs.EventLaws as L
+use borrow.Author.Needs.{needs}
+use Rattle.events.proofs.grant_or_wait.Statement.{statement}
+use Rattle.events.proofs.grant_or_wait.Tie as tie
+
+-- what is known where a lock stops the request
+in-range : (c : tie.Else1) → let k = c .before .before .lowest-key .result in (1 ≤ keyHolder k) × (keyHolder k ≤ limit) × (keyObject k ≤ mostObjects)
+in-range c =
+    let t = c .before .before .before .before .before in
+    let a = t .args in
+    let s = locksState (a .objects) (now (a .may-read)) (now (a .may-write)) (now (a .readers)) (now (a .writers)) in
+    L.stopped (weight s) s (a .rank) (c .before .before .lowest-key .result) (c .before .before .lowest-key .ensures)
+    (sym (c .before .passes .ensures) ∙ c .if1 .left) (t .pre .3) (t .pre .0)
+
+lowest-key-requires : tie.Need-lowest-key-requires
+lowest-key-requires c κs = search needs
+
+passes-requires : tie.Need-passes-requires
+passes-requires c κs = search needs
+
+grant-requires : tie.Need-grant-requires
+grant-requires c κs = search needs
+
+returns : tie.Need-returns
+unfolding grant
+returns c =
+    let b = c .before .before .before .before .before .before .before .before .before .args in
+    let k = c .before .before .before .before .before .before .lowest-key .result in
+    λ p j a u ps.
+    let s = stateOf p j (b .objects) ps (now (b .may-read)) (now (b .may-write)) a u (now (b .readers)) (now (b .writers)) (now (b .request)) in
+    (λ i. outcome Granted (stateOf p j (b .objects) ps (now (b .may-read)) (now (b .may-write)) a u (c .grant .ensures .0 i) (c .grant .ensures .1 i) (c .grant .ensures .2 i)))
+    ∙ sym (L.granted s (b .mode) (b .rank) (b .object) k (sym (c .before .before .before .before .before .passes .ensures) ∙ c .before .before .before .before .if1 .taken))
+    ∙ ap (requestMeeting s (b .mode) (b .rank) (b .object)) (c .before .before .before .before .before .before .lowest-key .ensures ∙ sym (lowest-key-parts s (b .rank)))
+
+key-holder-requires : tie.Need-key-holder-requires
+key-holder-requires c κs = search needs
+
+key-object-requires : tie.Need-key-object-requires
+key-object-requires c κs = search needs
+
+set-of-requires : tie.Need-set-of-requires
+set-of-requires c κs = omega (arith, in-range ((c .before .before .before)), c .before .key-object .ensures)
+
+set-of-requires-2 : tie.Need-set-of-requires-2
+set-of-requires-2 c κs = omega (arith, in-range ((c .before .before .before .before)), c .before .before .key-object .ensures)
+
+reason-requires : tie.Need-reason-requires
+reason-requires c κs =
+    let b = in-range ((c .before .before .before .before .before)) in
+    let h = c .before .before .before .before .key-holder .ensures in
+    (omega arith, omega arith)
+
+mul-store-request : tie.Need-mul-store-request
+mul-store-request c = search needs
+
+add-store-request : tie.Need-add-store-request
+add-store-request c = search needs
+
+store-request-requires : tie.Need-store-request-requires
+store-request-requires c κs = search needs
+
+returns-2 : tie.Need-returns-2
+unfolding await
+returns-2 c =
+    let b = c .before .before .before .before .before .before .before .before .before .before .before .before .before .args in
+    let k = c .before .before .before .before .before .before .before .before .before .before .lowest-key .result in
+    let h = c .before .before .before .before .before .before .before .key-holder .ensures in
+    let o = c .before .before .before .before .before .before .key-object .ensures in
+    λ p j a u ps.
+    let s = stateOf p j (b .objects) ps (now (b .may-read)) (now (b .may-write)) a u (now (b .readers)) (now (b .writers)) (now (b .request)) in
+    let why : c .before .before .reason .result ≡ reason s (b .mode) (b .object) (keyHolder k) (keyObject k) =
+    c .before .before .reason .ensures
+    ∙ (λ i. reasonOf (b .mode) (b .object) (h i) (o i) ((c .before .before .before .before .set-of .ensures ∙ ap (at (now (b .writers))) o) i) ((c .before .before .before .set-of2 .ensures ∙ ap (at (now (b .may-write))) o) i))
+    ∙ sym (reason-parts s (b .mode) (b .object) (keyHolder k) (keyObject k)) in
+    (λ i. outcome (Waits (h i) (o i) (why i)) (stateOf p j (b .objects) ps (now (b .may-read)) (now (b .may-write)) a u (now (b .readers)) (now (b .writers)) (c .store-request .ensures i)))
+    ∙ sym (L.waits s (b .mode) (b .rank) (b .object) k (sym (c .before .before .before .before .before .before .before .before .before .passes .ensures) ∙ c .before .before .before .before .before .before .before .before .if1 .left))
+    ∙ ap (requestMeeting s (b .mode) (b .rank) (b .object)) (c .before .before .before .before .before .before .before .before .before .before .lowest-key .ensures ∙ sym (lowest-key-parts s (b .rank)))
+
+pub grant-or-wait-spec : {M : Type 1} → statement M
+grant-or-wait-spec =
+    tie.close
+    (tie.spec
+    lowest-key-requires
+    passes-requires
+    grant-requires
+    returns
+    key-holder-requires
+    key-object-requires
+    set-of-requires
+    set-of-requires-2
+    reason-requires
+    mul-store-request
+    add-store-request
+    store-request-requires
+    returns-2)

@@ -1,0 +1,61 @@
+-- `refusals::finish_refusal` meets its contract: 10 leaves at once; behind it the rank is one that the arrays have.
+-- Assumes nothing.
+use denote.Ref.{now}
+use mathlib.Core.Path.{sym, ap, ap₂, _∙_}
+use mathlib.Core.Bool.{Bool, not, _&&_}
+use mathlib.Core.List.{List}
+use Prim.Native.Nat.{ℕ}
+use native.Mathlib.Omega.{arith}
+use lib.Dec.{eqb}
+use borrow.Author.Tests.{not-true, not-false}
+use Rattle.basics.specs.Choice.{_if_else_, between-true}
+use Rattle.state.specs.declared.State.{State}
+use Rattle.state.specs.State.{stateOf}
+use Rattle.refusals.specs.Parts as P
+use borrow.Author.Needs.{needs}
+use Rattle.refusals.proofs.finish_refusal.Statement.{statement}
+use Rattle.refusals.proofs.finish_refusal.Tie as tie
+
+-- the state that the parts are of, with any other parts
+abbrev whole : (c : tie.Start) → ℕ → ℕ → ℕ → List ℕ → List ℕ → List ℕ → List ℕ → List ℕ → State
+whole c p o u ps mr mw rs ws = let a = c .args in stateOf p (a .jobs) o ps mr mw (a .active) u rs ws (now (a .request))
+
+within-requires : tie.Need-within-requires
+within-requires c κs = search needs
+
+returns : tie.Need-returns
+returns c =
+    let a = c .before .before .args in
+    λ p o u ps mr mw rs ws. sym (P.finish-refusal (whole ((c .before .before)) p o u ps mr mw rs ws) (a .kind) (a .rank) (a .object) (c .before .before .pre .1) (c .before .before .pre .2) ∙ simp (sym (c .before .within .ensures) ∙ not-true (c .before .within .result) (c .if1 .taken)))
+
+contains-requires : tie.Need-contains-requires
+contains-requires c κs = omega (arith, between-true 1 (c .before .before .args .jobs) (c .before .before .args .rank) (sym (c .before .within .ensures) ∙ not-false (c .before .within .result) (c .if1 .left)), c .before .before .pre)
+
+is-waiting-requires : tie.Need-is-waiting-requires
+is-waiting-requires c κs = omega (arith, between-true 1 (c .before .before .before .args .jobs) (c .before .before .before .args .rank) (sym (c .before .before .within .ensures) ∙ not-false (c .before .before .within .result) (c .before .if1 .left)), c .before .before .before .pre)
+
+job-event-refusal-requires : tie.Need-job-event-refusal-requires
+job-event-refusal-requires c κs = search needs
+
+refused-if-requires : tie.Need-refused-if-requires
+refused-if-requires c κs = search needs
+
+returns-2 : tie.Need-returns-2
+returns-2 c =
+    let a = c .before .before .before .before .before .before .args in
+    λ p o u ps mr mw rs ws. c .refused-if .ensures
+    ∙ ap (λ (n : ℕ). 11 if not (eqb (a .object) 0) else n)
+    (c .before .job-event-refusal .ensures ∙ ap₂ (λ (b w : Bool). 13 if not b else 14 if eqb (a .kind) 5 && w else 0) (c .before .before .before .contains .ensures) (c .before .before .is-waiting .ensures))
+    ∙ sym (P.finish-refusal (whole ((c .before .before .before .before .before .before)) p o u ps mr mw rs ws) (a .kind) (a .rank) (a .object) (c .before .before .before .before .before .before .pre .1) (c .before .before .before .before .before .before .pre .2) ∙ simp (sym (c .before .before .before .before .before .within .ensures) ∙ not-false (c .before .before .before .before .before .within .result) (c .before .before .before .before .if1 .left)))
+
+pub finish-refusal-spec : {M : Type 1} → statement M
+finish-refusal-spec =
+    tie.close
+    (tie.spec
+    within-requires
+    returns
+    contains-requires
+    is-waiting-requires
+    job-event-refusal-requires
+    refused-if-requires
+    returns-2)
