@@ -3,6 +3,7 @@ use mathlib.Core.Path.{_≡_, refl, sym, ap, _∙_}
 use mathlib.Core.Logic.{_≢_, _⊎_, inl, inr}
 use Prim.Native.Nat.{ℕ, _≤_, _<_}
 use native.Mathlib.Omega.{arith}
+use native.Mathlib.Decide.{decLe}
 use Rattle.theory.specs.Words.{Label, Starts, Unlocks, Ends}
 use Rattle.theory.specs.Machine.{View, Blocked, Took, MayRequest, Releases, TurnsWait, Searched, Step}
 
@@ -64,7 +65,7 @@ module _ {N : ℕ} {s s' : View} where
   start-step j o weight requested started active unlocked =
       quiet-step (labelled 1 j o 0 0) (omega arith) refl (λ a. started) (λ a. absurd (omega arith))
       (λ a. absurd (omega arith)) (λ a. absurd (omega arith)) (λ a. weight) (λ x. inl (requested x))
-      (λ x. elim (active x) [ inl e ↦ inl e | inr e ↦ inr (inl (refl, e)) ]) unlocked
+      (λ x. elim (active x) [ inl e ↦ inl e | inr e ↦ inr (inl (omega arith)) ]) unlocked
 
   module _ (j o mode : ℕ) (may : MayRequest N s j) (free : s .requested j ≡ 0)
       (active : (x : ℕ) → s' .active x ≡ s .active x) (unlocked : (x : ℕ) → s' .unlocked x ≡ s .unlocked x) where
@@ -79,7 +80,7 @@ module _ {N : ℕ} {s s' : View} where
     wait-step object blocked weight waits requested =
         quiet-step (labelled 3 j o mode 0) (omega arith) refl (λ a. absurd (omega arith)) (λ a. (may, free))
         (λ a. absurd (omega arith)) (λ a. (object, waits, blocked)) (λ a. weight)
-        (λ x. elim (requested x) [ inl e ↦ inl e | inr e ↦ inr (inl (refl, e, refl)) ])
+        (λ x. elim (requested x) [ inl e ↦ inl e | inr e ↦ inr (inl (omega arith)) ])
         (λ x. inl (active x)) unlocked
 
   module _ (j o w : ℕ) (m : View) (woke : Woke m w s') where
@@ -108,7 +109,7 @@ module _ {N : ℕ} {s s' : View} where
       weight-same = λ a. woke .nobody;
       requested-same = λ x. elim (woke .requested-same x) [
         | inl e ↦ elim (requested x) [ inl f ↦ inl (e ∙ f) | inr f ↦ inr (inr (inr f)) ]
-        | inr e ↦ inr (inr (inl e))
+        | inr e ↦ inr (inr (inl (omega arith)))
       ];
       active-same = λ x. elim (active x) [ inl e ↦ inl (woke .active-same x ∙ e) | inr e ↦ inr (inr e) ];
       unlocked-same = λ x. elim (unlocked x) [ inl e ↦ inl (woke .unlocked-same x ∙ e) | inr e ↦ inr e ];
@@ -118,7 +119,7 @@ module _ {N : ℕ} {s s' : View} where
         other a e = woke .waited a (ap (m .requested) e ∙ none)
 
         same : 0 < w → m .requested w ≡ s .requested w
-        same a = elim (requested w) [ inl e ↦ e | inr e ↦ absurd (other a (sym (e .2))) ]
+        same a = elim (requested w) [ inl e ↦ e | inr e ↦ absurd (other a (sym (e .of-job))) ]
 
         dropped : (s' .requested j ≡ m .requested j) ⊎ ((0 < j) × (w ≡ j)) → s' .requested j ≡ 0
         dropped (inl e) = e ∙ none
@@ -130,8 +131,8 @@ module _ {N : ℕ} {s s' : View} where
         → Step N s (labelled 4 j o 0 w) s'
     unlock-step free gone weight requested active marked unlocked =
         release-step 4 (omega arith) (requested j ∙ free) (λ a. free) (λ a. (marked, gone)) (λ a. absurd (omega arith))
-        (λ r p. elim (weight r p) [ inl e ↦ inl e | inr e ↦ inr (inl (refl, e .0, e .1)) ]) (λ x. inl (requested x))
-        (λ x. inl (active x)) (λ x. elim (unlocked x) [ inl e ↦ inl e | inr e ↦ inr (inl (refl, e, refl)) ])
+        (λ r p. elim (weight r p) [ inl e ↦ inl e | inr e ↦ inr (inl (omega arith)) ]) (λ x. inl (requested x))
+        (λ x. inl (active x)) (λ x. elim (unlocked x) [ inl e ↦ inl e | inr e ↦ inr (inl (omega arith)) ])
 
     -- what: 5 finish, 6 abandonment
     pub end-step : (what : ℕ) → 5 ≤ what → what ≤ 6 → (what ≤ 5 → s .requested j ≡ 0) → ((p : ℕ) → m .weight j p ≡ N)
@@ -141,10 +142,16 @@ module _ {N : ℕ} {s s' : View} where
         → ((x : ℕ) → (m .unlocked x ≡ s .unlocked x) ⊎ (j ≡ x)) → Step N s (labelled what j o 0 w) s'
     end-step what five six free gone weight none requested idle active unlocked =
         release-step what (omega arith) none free (λ a. absurd (omega arith)) (λ a. (idle, gone))
-        (λ r p. elim (weight r p) [ inl e ↦ inl e | inr e ↦ inr (inr (five, six, e)) ])
-        (λ x. elim (requested x) [ inl e ↦ inl e | inr e ↦ inr (five, six, e) ])
-        (λ x. elim (active x) [ inl e ↦ inl e | inr e ↦ inr (five, six, e) ])
-        (λ x. elim (unlocked x) [ inl e ↦ inl e | inr e ↦ inr (inr (five, six, e)) ])
+        (λ r p. elim (weight r p) [ inl e ↦ inl e | inr e ↦ inr (inr (ends r e)) ])
+        (λ x. elim (requested x) [ inl e ↦ inl e | inr e ↦ inr (ends x e) ])
+        (λ x. elim (active x) [ inl e ↦ inl e | inr e ↦ inr (ends x e) ])
+        (λ x. elim (unlocked x) [ inl e ↦ inl e | inr e ↦ inr (inr (ends x e)) ])
+      where
+        five-or-six : (what ≡ 5) ⊎ (what ≡ 6)
+        five-or-six = elim (decLe what 5) [ yes l ↦ inl (omega arith) | no l ↦ inr (omega arith) ]
+
+        ends : (x : ℕ) → j ≡ x → Ends (labelled what j o 0 w) x
+        ends x e = record { finish-or-abandonment-done = five-or-six; of-job = e }
 
 -- a refused event
 pub refused-step : {N : ℕ} (s : View) (j o : ℕ) → Step N s (labelled 0 j o 0 0) s

@@ -10,10 +10,10 @@ use mathlib.Core.Logic.{_≢_, _⊎_, inl, inr}
 use Prim.Native.Nat.{ℕ, zero, suc, _≤_, _<_}
 use native.Mathlib.Omega.{arith}
 use native.Mathlib.Decide.{ℕ-discrete, decLe, decLt, le-ind}
-use Rattle.theory.specs.Words.{Label, Waits, Ends, Never, Run, Ended, Holds, Meanwhile, Pending, Waiting, Grant, FirstLock, ThoseEnded, MostUrgentHolder, Sentence1, Sentence2, GrantedBy, Excepted, Sentence3, Demand3}
+use Rattle.theory.specs.Words.{Label, Waits, Ends, Abandons, Wakens, Never, Run, Pending, after-waits, Waiting, Grant, FirstLock, ThoseEnded, Meanwhile, MostUrgentHolder, Sentence1, Sentence2, GrantedBy, Excepted, abandoned, took-first-lock, Sentence3, Demand3}
 use Rattle.theory.specs.Machine.{View, TurnsWait, Seen, Invariant}
 use Rattle.theory.specs.Keeps.{Takes, taking, took-or-kept, began-wait, takes-may, takes-stays, takes-one, taker-held, blockers-shrink, TopHolder, named-lock, named-top, top-not-waiting, one-blocker}
-use Rattle.theory.specs.Links.{Trace, extend, nothing-between, EndsRun, pending-on, pending-first, grant-run, invariant, pending-requested, active-run, takes-grant, grant-kept, holds-held, held-holds}
+use Rattle.theory.specs.Links.{Trace, extend, nothing-between, EndsRun, run-through, pending-on, pending-first, grant-run, invariant, pending-requested, active-run, takes-grant, grant-kept, holds-held, held-holds}
 
 -- some number has the property, or none below n has
 find : (P : ℕ → Type 0) → ((i : ℕ) → Dec (P i)) → (n : ℕ) → ((i : ℕ) × P i) ⊎ ((i : ℕ) → i < n → ¬ P i)
@@ -26,12 +26,24 @@ find P d (suc n) = go (find P d n) (d n)
     go (inr f) (no q) = inr (λ i h p. elim (ℕ-discrete i n) [ yes e ↦ q (subst P e p) | no d' ↦ f i (omega arith) p ])
 
 dec-ends : (l : Label) (j : ℕ) → Dec (Ends l j)
-dec-ends l j = elim (decLe 5 (l .what)) [
-  | yes a ↦ elim (decLe (l .what) 6) [
-    | yes b ↦ elim (ℕ-discrete (l .job) j) [ yes c ↦ yes (a, b, c) | no c ↦ no (λ z. c (z .2)) ]
-    | no b ↦ no (λ z. b (z .1))
+dec-ends l j = elim (ℕ-discrete (l .job) j) [
+  | yes e ↦ elim (ℕ-discrete (l .what) 5) [
+    | yes a ↦ yes (record { finish-or-abandonment-done = inl a; of-job = e })
+    | no a ↦ elim (ℕ-discrete (l .what) 6) [
+      | yes b ↦ yes (record { finish-or-abandonment-done = inr b; of-job = e })
+      | no b ↦ no (λ z. elim (z .finish-or-abandonment-done) [ inl c ↦ a c | inr c ↦ b c ])
+    ]
   ]
-  | no a ↦ no (λ z. a (z .0))
+  | no d ↦ no (λ z. d (z .of-job))
+]
+
+-- what is meanwhile comes before the time at which those runs have ended
+pub meanwhile-before : (label : ℕ → Label) (j r i t : ℕ) → Meanwhile label j r i → ThoseEnded label j r t → i < t
+meanwhile-before label j r i t m ended = elim (decLt i t) [
+  | yes l ↦ l
+  | no l ↦
+      let e = ended (m .job) (m .start) (m .one-of-those) in
+      absurd (m .goes-on .not-ended (e .end) (e .after-start) (omega arith) (e .ends))
 ]
 
 module _ {N M : ℕ} {view : ℕ → View} {label : ℕ → Label} (T : Trace N view label) (W : (i : ℕ) → Seen N M (view i)) where
@@ -41,23 +53,35 @@ module _ {N M : ℕ} {view : ℕ → View} {label : ℕ → Label} (T : Trace N 
   I : (t : ℕ) → Invariant N (view t)
   I = invariant T
 
-  waiting-requested : (j t : ℕ) → Waiting label j t → view t .requested j ≢ 0
-  waiting-requested j t w = let h = pending-requested T j (w .0) (w .1) (w .2) t (w .3) in omega arith
+  pending-waits : (j k o r t : ℕ) → Pending label j k o r t → view t .requested j ≢ 0
+  pending-waits j k o r t p = let h = pending-requested T j k o r t p in omega arith
+
+  waiting-waits : (j t : ℕ) → Waiting label j t → view t .requested j ≢ 0
+  waiting-waits j t w = pending-waits j (w .start) (w .object) (w .asked) t (w .pending)
 
   -- ---- sentence 1
 
   top-most-urgent : (m t : ℕ) → TopHolder N (view t) m → MostUrgentHolder label m t
   top-most-urgent m t u =
       let h = held-holds T m (u .0 .0) t (u .0 .1) in
-      ((h .0, u .0 .0, h .1), λ x y z. omega (arith, u .1 x (y .1) (holds-held T x (y .0) (y .1) t (y .2))))
+      record {
+        holder = record { start = h .0; object = u .0 .0; holds = h .1 };
+        most-urgent = λ x y z. omega (arith, u .1 x (y .object) (holds-held T x (y .start) (y .object) t (y .holds)));
+      }
 
   one : (t : ℕ) → Sentence1 label named t
   one t j w =
-      let a = waiting-requested j t w in
+      let a = waiting-waits j t w in
       let u = named-top (I t) (W t) j a in
       let r = active-run T j t (I t .waits j a .active) in
       let m = view t .names j in
-      (m, (r .0, (r .1, refl)), top-most-urgent m t u, λ w'. waiting-requested m t w' (top-not-waiting (I t) (W t) m u))
+      record {
+        named-job = m;
+        start = r .0;
+        names = record { run = r .1; question-gives = refl };
+        most-urgent-holder = top-most-urgent m t u;
+        not-waiting = λ w'. waiting-waits m t w' (top-not-waiting (I t) (W t) m u);
+      }
 
   -- ---- sentence 2
 
@@ -100,13 +124,14 @@ module _ {N M : ℕ} {view : ℕ → View} {label : ℕ → Label} (T : Trace N 
           let o = view n .requested j in
           let v = takes-grant T j o n (inr (w, refl)) in
           inl (n, o, v .0, z, omega arith, v .1)
-      step n z h (inr x) (inr (inr (inr e))) = absurd (r .2 n (omega arith) h e)
+      step n z h (inr x) (inr (inr (inr e))) = absurd (r .not-ended n (omega arith) h e)
 
   two : (j k : ℕ) → Sentence2 label named j k
-  two j k = (
-    λ t t' m m' n n' l l'. sym (n .1) ∙ (both t t' (n .0) (n' .0) (omega (arith, n .1)) (omega (arith, n' .1)) ∙ n' .1),
-    λ t m o n l h. less-bare j t (omega (arith, n .1)) o (holds-held T j k o t h),
-  )
+  two j k = record {
+    at-most-one = λ t t' m m' n n' l l'.
+        sym (n .question-gives) ∙ (both t t' (n .run) (n' .run) (omega arith) (omega arith) ∙ n' .question-gives);
+    only-without-lock = λ t m o n l h. less-bare j t (omega arith) o (holds-held T j k o t h);
+  }
     where
       meet : (t t' : ℕ) → k < t → Run label j k t' → NamesLess j t → NamesLess j t' → Since j t t' → named t j ≡ named t' j
       meet t t' c r l l' (inl g) =
@@ -125,8 +150,8 @@ module _ {N M : ℕ} {view : ℕ → View} {label : ℕ → Label} (T : Trace N 
 
       both : (t t' : ℕ) → Run label j k t → Run label j k t' → NamesLess j t → NamesLess j t' → named t j ≡ named t' j
       both t t' r r' l l' = elim (decLe t t') [
-        | yes z ↦ ordered t t' z (r .0) r' l l'
-        | no z ↦ sym (ordered t' t (omega arith) (r' .0) r l' l)
+        | yes z ↦ ordered t t' z (r .begun) r' l l'
+        | no z ↦ sym (ordered t' t (omega arith) (r' .begun) r l' l)
       ]
 
   -- ---- sentence 3
@@ -139,28 +164,30 @@ module _ {N M : ℕ} {view : ℕ → View} {label : ℕ → Label} (T : Trace N 
   abbrev OldHolders : (j k o r t : ℕ) → Type 0
   OldHolders j k o r t = Pending label j k o r t × ((h p : ℕ) → h ≢ j → view t .weight h p < N → Old r h t)
 
-  -- then not all of those runs have ended: the named job's has not
-  not-ended : (j k o r t : ℕ) → OldHolders j k o r t → ¬ ThoseEnded label j r t
-  not-ended j k o r t L ended =
-      let a = waiting-requested j t (k, o, r, L .0) in
+  -- then an event at time t is meanwhile: the named job's run is one of those, and goes on
+  meanwhile : (j k o r t : ℕ) → r < t → OldHolders j k o r t → Meanwhile label j r t
+  meanwhile j k o r t l L =
+      let a = pending-waits j k o r t (L .0) in
       let n = named-lock (I t) (W t) j a in
       let h = view t .names j in
       let x = L .1 h (n .0) (n .1 .0) (omega (arith, n .1 .1, I t .waits j a .rank)) in
       let y = held-holds T h (x .0 .0) (suc r) (x .0 .1) in
-      let z = ended h (y .0) (x .0 .0) (n .1 .0) (y .1) in
-      elim (decLt r (z .0)) [
-        | yes b ↦ x .1 (z .0) b (z .2) (z .3)
-        | no b ↦ y .1 .0 .2 (z .0) (z .1) (omega arith) (z .3)
-      ]
+      record {
+        since = omega arith;
+        job = h;
+        start = y .0;
+        one-of-those = record { of-other = n .1 .0; object = x .0 .0; held = y .1 };
+        goes-on = run-through label h (y .0) r t l (y .1 .run) (x .1);
+      }
 
   -- event t, through which j's request stays pending
   module _ (j k o r t : ℕ) (l : r < t) (L : OldHolders j k o r t) (pending : Pending label j k o r (suc t)) where
     a : view t .requested j ≢ 0
-    a = waiting-requested j t (k, o, r, L .0)
+    a = pending-waits j k o r t (L .0)
 
     not-self : (q : ℕ) → ¬ Takes (view t) (label t) j q
-    not-self q (inl g) = a (rw (g .1) at (T .step t .request (omega arith) (omega arith) .1))
-    not-self q (inr w) = pending .4 t l (omega arith) (w .0)
+    not-self q (inl g) = a (rw (g .to-job) at (T .step t .request (omega arith) (omega arith) .1))
+    not-self q (inr w) = pending .not-woken t l (omega arith) (w .0)
 
     stays : (h p : ℕ) → h ≢ j → view t .weight h p < N → ¬ Ends (label t) h → Old r h (suc t)
     stays h p d m n = let x = L .1 h p d m in (x .0, extend (EndsRun label h) (x .1) n)
@@ -184,10 +211,11 @@ module _ {N M : ℕ} {view : ℕ → View} {label : ℕ → Label} (T : Trace N 
         let v = takes-grant T x q t m in
         let u = grant-run label x (v .0) q t (v .1) in (
           v .0,
-          (
-            (q, v .1),
-            λ g c d w. none (w .0) (grant-kept T x (v .0) (w .0) (v .0) g t u (f .not-unlocked) c d (w .1)),
-          ),
+          record {
+            object = q;
+            grant = v .1;
+            none-earlier = λ p g c d w. none p (grant-kept T x (v .0) p (v .0) g t u (f .not-unlocked) c d w);
+          },
         )
 
     -- x takes a lock; it held one before, or none
@@ -200,12 +228,12 @@ module _ {N M : ℕ} {view : ℕ → View} {label : ℕ → Label} (T : Trace N 
         elim (decLt x j) [
           | yes z ↦
               let f = first-lock x q m bare in
-              inl (t, (omega arith, not-ended j k o r t L), inr (x, f .0, z, f .1))
+              inl (took-first-lock t x (f .0) (meanwhile j k o r t l L) z (f .1))
           | no z ↦ elim (ℕ-discrete x j) [
             | yes y ↦ absurd (not-self q (rw y at m))
             | no y ↦
                 let rank = I t .waits j a .rank in
-                let a' = waiting-requested j (suc t) (k, o, r, pending) in
+                let a' = pending-waits j k o r (suc t) pending in
                 let b = taker-held (T .step t) (I t) j x q a' rank m (omega arith) in
                 absurd (bare (b .0) (omega arith))
           ]
@@ -230,18 +258,23 @@ module _ {N M : ℕ} {view : ℕ → View} {label : ℕ → Label} (T : Trace N 
       le-ind (History j k o r) (inr first) step t l
     where
       step : (n : ℕ) → r < n → History j k o r n → History j k o r (suc n)
-      step n z (inl (inl x)) = inl (inl (x .0, x .1, omega (arith, x .2), x .3))
+      step n z (inl (inl x)) =
+          inl (inl (record { start = x .start; event = x .event; before = omega arith; granted = x .granted }))
       step n z (inl (inr x)) = inl (inr x)
       step n z (inr L) =
-          let a = waiting-requested j n (k, o, r, L .0) in
+          let a = pending-waits j k o r n (L .0) in
           elim (ℕ-discrete (label n .woken) j) [
-            | yes b ↦ inl (inl (k, n, omega arith, inr (L .0, (I n .waits j a .positive, b))))
+            | yes b ↦
+                let w : Wakens (label n) j = record { a-rank = I n .waits j a .positive; given-as-woken = b } in
+                inl (inl (record { start = k; event = n; before = omega arith; granted = after-waits (L .0) w }))
             | no b ↦ elim (dec-ends (label n) j) [
-              | yes c ↦ elim (decLe 6 (label n .what)) [
-                | yes d ↦ inl (inr (n, (omega arith, not-ended j k o r n L), inl (omega arith, c .2)))
-                | no d ↦ absurd (a (rw (c .2) at (T .step n .finish (omega arith))))
+              | yes c ↦ elim (c .finish-or-abandonment-done) [
+                | inl d ↦ absurd (a (rw (c .of-job) at (T .step n .finish d)))
+                | inr d ↦
+                    let w : Abandons (label n) j = record { abandonment-done = d; of-job = c .of-job } in
+                    inl (inr (abandoned n (meanwhile j k o r n z L) w))
               ]
-              | no c ↦ elim (next j k o r n z L (pending-on label j k o r n (L .0) (λ x. b (x .1)) c)) [
+              | no c ↦ elim (next j k o r n z L (pending-on label j k o r n (L .0) (λ x. b (x .given-as-woken)) c)) [
                 | inl x ↦ inl (inr x)
                 | inr y ↦ inr y
               ]
@@ -250,22 +283,12 @@ module _ {N M : ℕ} {view : ℕ → View} {label : ℕ → Label} (T : Trace N 
 
   three : (j o r t : ℕ) → Sentence3 label j o r t
   three j o r t w l ended =
-      let u = active-run T j r (began-wait (T .step r) j (w .0, w .1, refl) .0 .active) in
-      elim (history j (u .0) o r t (u .1) w l) [ inl x ↦ x | inr L ↦ absurd (not-ended j (u .0) o r t L ended) ]
+      let v : Waits (label r) j (label r .object) = record { waits = w .waits; of-job = w .of-job; for-object = refl } in
+      let u = active-run T j r (began-wait (T .step r) j v .0 .active) in
+      elim (history j (u .0) o r t (u .1) w l) [
+        | inl x ↦ x
+        | inr L ↦ absurd (omega (arith, meanwhile-before label j r t t (meanwhile j (u .0) o r t l L) ended))
+      ]
 
   pub demand3 : Demand3 label named
   demand3 = record { one = one; two = two; three = three }
-
--- ---- two readings of sentence 3
-
--- what is meanwhile comes before the time at which those runs have ended
-pub meanwhile-before : (label : ℕ → Label) (j r i t : ℕ) → Meanwhile label j r i → ThoseEnded label j r t → i < t
-meanwhile-before label j r i t m ended = elim (decLt i t) [
-  | yes l ↦ l
-  | no l ↦ absurd (m .1 (λ h k o d x. (let e = ended h k o d x in (e .0, e .1, omega (arith, e .2), e .3))))
-]
-
--- 01 counts j's own run among those that have to end: the sentence so read follows
-pub own-run-too : (label : ℕ → Label) (j o r t : ℕ) → Sentence3 label j o r t → Waits (label r) j o → r < t
-    → ((h k p : ℕ) → Holds label h k p (suc r) → Ended label h k t) → GrantedBy label j o r t ⊎ Excepted label j r
-own-run-too label j o r t S w l ended = S w l (λ h k p d x. ended h k p x)

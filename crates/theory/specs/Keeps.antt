@@ -23,6 +23,10 @@ taker-blocks {u} {v} {x} {q} {j} T b l = elim (ℕ-discrete (b .0) x) [
   | no n ↦ absurd (omega (arith, T .pass (b .0) (b .1) n, b .3))
 ]
 
+-- an event that ends a run is a finish or an abandonment
+pub ends-kind : {l : Label} {j : ℕ} → Ends l j → 5 ≤ l .what
+ends-kind {l} e = elim (e .finish-or-abandonment-done) [ inl a ↦ omega arith | inr a ↦ omega arith ]
+
 -- event l gives x a lock on o
 abbrev pub Takes : View → Label → ℕ → ℕ → Type 0
 Takes s l x o = Grants l x o ⊎ (Wakens l x × (s .requested x ≡ o))
@@ -31,28 +35,28 @@ Takes s l x o = Grants l x o ⊎ (Wakens l x × (s .requested x ≡ o))
 
 module _ {N : ℕ} {s : View} {l : Label} {s' : View} (S : Step N s l s') where
   pub takes-took : (x o : ℕ) → Takes s l x o → Took (S .afterRelease) (s' .weight) x o
-  takes-took x o (inl g) = rw (g .1, g .2) at (S .grant (g .0))
-  takes-took x o (inr w) = rw (← (w .1)) (rw (← (w .0 .1)) (S .wake (omega arith) .4))
+  takes-took x o (inl g) = rw (g .to-job, g .on-object) at (S .grant (g .granted))
+  takes-took x o (inr w) = rw (← (w .1)) (rw (← (w .0 .given-as-woken)) (S .wake (omega arith) .4))
 
   -- somebody takes a lock, or nobody does
   pub taking : ((x : ℕ) × (o : ℕ) × Takes s l x o)
       ⊎ (((x o : ℕ) → ¬ Takes s l x o) × ((r p : ℕ) → s' .weight r p ≡ S .afterRelease r p))
   taking = elim (decLt 0 (l .woken)) [
-    | yes h ↦ inl (l .woken, s .requested (l .woken), inr ((h, refl), refl))
+    | yes h ↦ inl (l .woken, s .requested (l .woken), inr (omega arith, refl))
     | no h ↦ elim (ℕ-discrete (l .what) 2) [
-      | yes e ↦ inl (l .job, l .object, inl (e, refl, refl))
-      | no n ↦ inr (λ x o t. elim t [ inl g ↦ n (g .0) | inr w ↦ omega arith ], S .weight-same n (omega arith))
+      | yes e ↦ inl (l .job, l .object, inl (omega arith))
+      | no n ↦ inr (λ x o t. elim t [ inl g ↦ n (g .granted) | inr w ↦ omega arith ], S .weight-same n (omega arith))
     ]
   ]
 
   -- an event only releases locks of its own job
   pub releases-own : (r p : ℕ) → Releases l r p → (4 ≤ l .what) × (l .job ≡ r)
   releases-own r p (inl u) = omega arith
-  releases-own r p (inr e) = omega arith
+  releases-own r p (inr e) = omega (arith, ends-kind e)
 
   pub released : (r p : ℕ) → Releases l r p → S .afterRelease r p ≡ N
-  released r p (inl u) = rw (u .1, u .2) at (S .unlock (u .0) .2)
-  released r p (inr e) = rw (← (e .2)) (S .end (e .0) .2 p)
+  released r p (inl u) = rw (u .of-job, u .of-object) at (S .unlock (u .unlock-done) .2)
+  released r p (inr e) = rw (← (e .of-job)) (S .end (ends-kind e) .2 p)
 
   pub after-release : (r p : ℕ) → (S .afterRelease r p ≡ s .weight r p) ⊎ (S .afterRelease r p ≡ N)
   after-release r p = elim (S .release r p) [ inl e ↦ inl e | inr f ↦ inr (released r p f) ]
@@ -78,16 +82,16 @@ module _ {N : ℕ} {s : View} {l : Label} {s' : View} (S : Step N s l s') where
   ]
 
   pub wakens-waited : (x : ℕ) → Wakens l x → (4 ≤ l .what) × (s .requested x ≢ 0) × (l .job ≢ x)
-  wakens-waited x w = let h = S .wake (omega arith) in (h .0, rw (w .1) at (h .2), omega (arith, h .1))
+  wakens-waited x w = let h = S .wake (omega arith) in (h .0, rw (w .given-as-woken) at (h .2), omega (arith, h .1))
 
   -- a job that is woken, or whose run ends, does not wait after the event
   pub wait-over : (x : ℕ) → Wakens l x ⊎ Ends l x → s' .requested x ≡ 0
-  wait-over x (inl w) = rw (w .1) at (S .wake (omega arith) .3)
-  wait-over x (inr e) = rw (e .2) at (S .end (e .0) .1)
+  wait-over x (inl w) = rw (w .given-as-woken) at (S .wake (omega arith) .3)
+  wait-over x (inr e) = rw (e .of-job) at (S .end (ends-kind e) .1)
 
   -- who begins to wait did not wait before
   pub began-wait : (x : ℕ) → Waits l x (l .object) → MayRequest N s x × (s .requested x ≡ 0)
-  began-wait x w = rw (w .1) at (S .request (omega arith) (omega arith))
+  began-wait x w = rw (w .of-job) at (S .request (omega arith) (omega arith))
 
   -- who takes a lock releases none
   pub takes-stays : (x o p : ℕ) → Takes s l x o → ¬ Releases l x p
@@ -113,7 +117,7 @@ module _ {N : ℕ} {s : View} {l : Label} {s' : View} (S : Step N s l s') where
 
   module _ (I : Invariant N s) where
     pub takes-may : (x o : ℕ) → Takes s l x o → MayRequest N s x
-    takes-may x o (inl g) = rw (g .1) at (S .request (omega arith) (omega arith) .0)
+    takes-may x o (inl g) = rw (g .to-job) at (S .request (omega arith) (omega arith) .0)
     takes-may x o (inr w) = I .waits x (wakens-waited x (w .0) .1)
 
     -- who waits after the event waited before it, or began in it
@@ -133,7 +137,7 @@ module _ {N : ℕ} {s : View} {l : Label} {s' : View} (S : Step N s l s') where
           | yes k ↦ inl (S .search h x a (inr k))
           | no k ↦ elim (ℕ-discrete (l .woken) x) [
             | yes e ↦ absurd (a (wait-over x (inl (omega arith))))
-            | no d ↦ inr (l .woken, (omega arith, refl), omega arith)
+            | no d ↦ inr (l .woken, omega arith, omega arith)
           ]
         ]
       ]
@@ -145,7 +149,7 @@ module _ {N : ℕ} {s : View} {l : Label} {s' : View} (S : Step N s l s') where
 
         before : (s .requested x ≢ 0) ⊎ Waits l x (l .object) → Blocked (s .weight) x
         before (inl b) = I .blocked x b
-        before (inr w) = rw (w .1) at (S .wait (w .0) .2)
+        before (inr w) = rw (w .of-job) at (S .wait (w .waits) .2)
 
     blocked' : (x : ℕ) → s' .requested x ≢ 0 → Blocked (s' .weight) x
     blocked' x a = elim (blocked-after-release x a) [
@@ -172,7 +176,7 @@ module _ {N : ℕ} {s : View} {l : Label} {s' : View} (S : Step N s l s') where
     active' : (x : ℕ) → ¬ Ends l x → s .active x ≢ 0 → s' .active x ≢ 0
     active' x n b = elim (S .active-same x) [
       | inl e ↦ omega arith
-      | inr t ↦ elim t [ inl u ↦ rw (u .1) at (S .start (u .0)) | inr e ↦ absurd (n e) ]
+      | inr t ↦ elim t [ inl u ↦ rw (u .of-job) at (S .start (u .start-done)) | inr e ↦ absurd (n e) ]
     ]
 
     -- whoever waits after the event has not unlocked in it
@@ -181,7 +185,7 @@ module _ {N : ℕ} {s : View} {l : Label} {s' : View} (S : Step N s l s') where
       | inl e ↦ e
       | inr t ↦ elim t [
         | inl u ↦ elim (waited x a) [
-          | inl b ↦ absurd (b (rw (u .1) at (S .unlock (u .0) .0)))
+          | inl b ↦ absurd (b (rw (u .of-job) at (S .unlock (u .unlock-done) .0)))
           | inr w ↦ absurd (omega arith)
         ]
         | inr e ↦ absurd (a (wait-over x (inr e)))

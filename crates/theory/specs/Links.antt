@@ -5,9 +5,9 @@ use mathlib.Core.Logic.{_≢_, _⊎_, inl, inr}
 use Prim.Native.Nat.{ℕ, zero, suc, _≤_, _<_}
 use native.Mathlib.Omega.{arith}
 use native.Mathlib.Decide.{ℕ-discrete, decLt}
-use Rattle.theory.specs.Words.{Label, Starts, Waits, Unlocks, Ends, Wakens, Never, Run, Pending, Grant, Holds}
+use Rattle.theory.specs.Words.{Label, Starts, Waits, Unlocks, Ends, Wakens, Never, Run, Pending, by-that-answer, after-waits, Grant, Holds}
 use Rattle.theory.specs.Machine.{View, Releases, TurnsWait, Step, Invariant, Fresh, fresh-invariant}
-use Rattle.theory.specs.Keeps.{Takes, takes-took, took-or-kept, wakens-waited, wait-over, began-wait, takes-may, step-invariant, takes-stays, held-on}
+use Rattle.theory.specs.Keeps.{ends-kind, Takes, takes-took, took-or-kept, wakens-waited, wait-over, began-wait, takes-may, step-invariant, takes-stays, held-on}
 
 -- ---- intervals
 
@@ -28,26 +28,61 @@ abbrev pub WakesJob : (ℕ → Label) → ℕ → ℕ → Type 0
 WakesJob label j i = Wakens (label i) j
 
 pub run-on : (label : ℕ → Label) (j k t : ℕ) → Run label j k t → ¬ Ends (label t) j → Run label j k (suc t)
-run-on label j k t r n = (omega (arith, r .0), r .1, extend (EndsRun label j) (r .2) n)
+run-on label j k t r n =
+    record { begun = omega arith; starts = r .starts; not-ended = extend (EndsRun label j) (r .not-ended) n }
 
 pub run-before : (label : ℕ → Label) (j k r t : ℕ) → Run label j k t → k < r → r ≤ t → Run label j k r
-run-before label j k r t u a b = (a, u .1, λ i c d. u .2 i c (omega arith))
+run-before label j k r t u a b =
+    record { begun = a; starts = u .starts; not-ended = λ i c d. u .not-ended i c (omega arith) }
+
+-- a run that goes on behind event r, and that no later event before time t ends
+pub run-through : (label : ℕ → Label) (j k r t : ℕ) → r < t → Run label j k (suc r) → Never (EndsRun label j) r t
+    → Run label j k t
+run-through label j k r t l u n = record {
+  begun = omega arith;
+  starts = u .starts;
+  not-ended = λ i a b e. elim (decLt r i) [ yes c ↦ n i c b e | no c ↦ u .not-ended i a (omega arith) e ];
+}
 
 pub pending-on : (label : ℕ → Label) (j k o r t : ℕ) → Pending label j k o r t → ¬ Wakens (label t) j → ¬ Ends (label t) j
     → Pending label j k o r (suc t)
 pending-on label j k o r t p n m =
-    (p .0, omega (arith, p .1), run-on label j k t (p .2) m, p .3, extend (WakesJob label j) (p .4) n)
+    record {
+      after-start = p .after-start;
+      before = omega arith;
+      waits = p .waits;
+      run = run-on label j k t (p .run) m;
+      not-woken = extend (WakesJob label j) (p .not-woken) n;
+    }
+
+pub pending-before : (label : ℕ → Label) (j k o r t : ℕ) → Pending label j k o r (suc t) → r < t → Pending label j k o r t
+pending-before label j k o r t p l =
+    record {
+      after-start = p .after-start;
+      before = l;
+      waits = p .waits;
+      run = run-before label j k t (suc t) (p .run) (omega arith) (omega arith);
+      not-woken = shorter (WakesJob label j) (p .not-woken);
+    }
 
 -- event t begins the wait
 pub pending-first : (label : ℕ → Label) (j k o t : ℕ) → Run label j k t → Waits (label t) j o
     → Pending label j k o t (suc t)
 pending-first label j k o t r w =
-    (r .0, omega arith, run-on label j k t r (λ e. omega arith), w, nothing-between (WakesJob label j) t)
+    record {
+      after-start = r .begun;
+      before = omega arith;
+      waits = w;
+      run = run-on label j k t r (λ e. omega (arith, ends-kind e));
+      not-woken = nothing-between (WakesJob label j) t;
+    }
 
 -- the run of a grant goes on
 pub grant-run : (label : ℕ → Label) (j k o i : ℕ) → Grant label j k o i → Run label j k i
-grant-run label j k o i (r, q, inl g) = subst (Run label j k) (g .0) (q .0)
-grant-run label j k o i (r, q, inr w) = w .0 .2
+grant-run label j k o i v = elim (v .granted) [
+  | by-that-answer e g ↦ subst (Run label j k) e (v .request .run)
+  | after-waits p w ↦ p .run
+]
 
 -- events from a fresh state: event i is a step from the state at time i to the one at time i + 1
 pub record Trace (N : ℕ) (view : ℕ → View) (label : ℕ → Label) : Type 0 where
@@ -66,13 +101,13 @@ module _ {N : ℕ} {view : ℕ → View} {label : ℕ → Label} (T : Trace N vi
   active-run j (suc t) b = go (active-run j t) (T .step t .active-same j)
     where
       stays : ¬ Ends (label t) j
-      stays e = b (rw (e .2) at (T .step t .end (e .0) .0))
+      stays e = b (rw (e .of-job) at (T .step t .end (ends-kind e) .0))
 
       go : (view t .active j ≢ 0 → (k : ℕ) × Run label j k t)
           → (view (suc t) .active j ≡ view t .active j) ⊎ (Starts (label t) j ⊎ Ends (label t) j)
           → (k : ℕ) × Run label j k (suc t)
       go ih (inl e) = let h = ih (omega arith) in (h .0, run-on label j (h .0) t (h .1) stays)
-      go ih (inr (inl v)) = (t, (omega arith, v, nothing-between (EndsRun label j) t))
+      go ih (inr (inl v)) = (t, record { begun = omega arith; starts = v; not-ended = nothing-between (EndsRun label j) t })
       go ih (inr (inr v)) = absurd (stays v)
 
   pub unlocked-on : (j o i t : ℕ) → i < t → Unlocks (label i) j o → Never (EndsRun label j) i t → view t .unlocked j ≢ 0
@@ -85,7 +120,7 @@ module _ {N : ℕ} {view : ℕ → View} {label : ℕ → Label} (T : Trace N vi
   ]
     where
       now : (p : ℕ) → Unlocks (label t) j p → view (suc t) .unlocked j ≢ 0
-      now p v = rw (v .1) at (T .step t .unlock (v .0) .1)
+      now p v = rw (v .of-job) at (T .step t .unlock (v .unlock-done) .1)
 
       later : i < t → view t .unlocked j ≢ 0
           → (view (suc t) .unlocked j ≡ view t .unlocked j) ⊎ (Unlocks (label t) j (label t .object) ⊎ Ends (label t) j)
@@ -97,26 +132,25 @@ module _ {N : ℕ} {view : ℕ → View} {label : ℕ → Label} (T : Trace N vi
   -- ---- waiting
 
   pub pending-requested : (j k o r t : ℕ) → Pending label j k o r t → (view t .requested j ≡ o) × (0 < o)
-  pending-requested j k o r zero w = absurd (omega (arith, w .1))
+  pending-requested j k o r zero w = absurd (omega arith)
   pending-requested j k o r (suc t) w = elim (ℕ-discrete r t) [
-    | yes e ↦ now (subst (λ n. Waits (label n) j o) e (w .3))
+    | yes e ↦ now (subst (λ n. Waits (label n) j o) e (w .waits))
     | no d ↦
-        let l : r < t = omega (arith, w .1) in
-        let u = run-before label j k t (suc t) (w .2) (omega (arith, w .0)) (omega arith) in
-        let h = pending-requested j k o r t (w .0, l, u, w .3, shorter (WakesJob label j) (w .4)) in
+        let l : r < t = omega arith in
+        let h = pending-requested j k o r t (pending-before label j k o r t w l) in
         later l h (T .step t .requested-same j)
   ]
     where
       now : Waits (label t) j o → (view (suc t) .requested j ≡ o) × (0 < o)
-      now v = let b = T .step t .wait (v .0) in (rw (v .1, v .2) at (b .1), omega (arith, b .0))
+      now v = let b = T .step t .wait (v .waits) in (rw (v .of-job, v .for-object) at (b .1), omega (arith, b .0))
 
       later : r < t → (view t .requested j ≡ o) × (0 < o)
           → (view (suc t) .requested j ≡ view t .requested j) ⊎ TurnsWait (label t) j
           → (view (suc t) .requested j ≡ o) × (0 < o)
       later l h (inl e) = (e ∙ h .0, h .1)
       later l h (inr (inl v)) = absurd (omega (arith, began-wait (T .step t) j v .1))
-      later l h (inr (inr (inl v))) = absurd (w .4 t l (omega arith) v)
-      later l h (inr (inr (inr e))) = absurd (w .2 .2 t (omega (arith, w .0)) (omega arith) e)
+      later l h (inr (inr (inl v))) = absurd (w .not-woken t l (omega arith) v)
+      later l h (inr (inr (inr e))) = absurd (w .run .not-ended t (omega arith) (omega arith) e)
 
   pub requested-pending : (j t : ℕ) → view t .requested j ≢ 0
       → (k : ℕ) × (r : ℕ) × Pending label j k (view t .requested j) r t
@@ -125,6 +159,13 @@ module _ {N : ℕ} {view : ℕ → View} {label : ℕ → Label} (T : Trace N vi
     where
       stays : ¬ (Wakens (label t) j ⊎ Ends (label t) j)
       stays v = a (wait-over (T .step t) j v)
+
+      began : Waits (label t) j (label t .object) → Waits (label t) j (view (suc t) .requested j)
+      began v = record {
+        waits = v .waits;
+        of-job = v .of-job;
+        for-object = sym (rw (v .of-job) at (T .step t .wait (v .waits) .1));
+      }
 
       go : (view t .requested j ≢ 0 → (k : ℕ) × (r : ℕ) × Pending label j k (view t .requested j) r t)
           → (view (suc t) .requested j ≡ view t .requested j) ⊎ TurnsWait (label t) j
@@ -135,26 +176,38 @@ module _ {N : ℕ} {view : ℕ → View} {label : ℕ → Label} (T : Trace N vi
           (h .0, h .1, pending-on label j (h .0) o (h .1) t (h .2) (λ w. stays (inl w)) (λ w. stays (inr w)))
       go ih (inr (inl v)) =
           let u = active-run j t (began-wait (T .step t) j v .0 .active) in
-          let o = view (suc t) .requested j in
-          let w : Waits (label t) j o = (v .0, v .1, sym (rw (v .1) at (T .step t .wait (v .0) .1))) in
-          (u .0, t, pending-first label j (u .0) o t (u .1) w)
+          (u .0, t, pending-first label j (u .0) (view (suc t) .requested j) t (u .1) (began v))
       go ih (inr (inr v)) = absurd (stays v)
 
   -- ---- locks
 
   pub grant-takes : (j k o t : ℕ) → Grant label j k o t → Takes (view t) (label t) j o
-  grant-takes j k o t (r, q, inl g) = inl (g .1)
-  grant-takes j k o t (r, q, inr w) = inr (w .1, pending-requested j k o r t (w .0) .0)
+  grant-takes j k o t v = elim (v .granted) [
+    | by-that-answer e g ↦ inl g
+    | after-waits p w ↦ inr (w, pending-requested j k o (v .asked) t p .0)
+  ]
 
   pub takes-grant : (j o t : ℕ) → Takes (view t) (label t) j o → (k : ℕ) × Grant label j k o t
   takes-grant j o t (inl g) =
-      let u = active-run j t (takes-may (T .step t) (invariant t) j o (inl g) .active) in
-      (u .0, (t, (u .1, inl g), inl (refl, g)))
+      let u = active-run j t (takes-may (T .step t) (invariant t) j o (inl g) .active) in (
+        u .0,
+        record {
+          asked = t;
+          request = record { run = u .1; granted-or-waits = inl g };
+          granted = by-that-answer refl g;
+        },
+      )
   takes-grant j o t (inr w) =
       let h = requested-pending j t (wakens-waited (T .step t) j (w .0) .1) in
       let p : Pending label j (h .0) o (h .1) t = rw (w .1) at (h .2) in
-      let u = run-before label j (h .0) (h .1) t (p .2) (p .0) (omega (arith, p .1)) in
-      (h .0, (h .1, (u, inr (p .3)), inr (p, w .0)))
+      let u = run-before label j (h .0) (h .1) t (p .run) (p .after-start) (omega arith) in (
+        h .0,
+        record {
+          asked = h .1;
+          request = record { run = u; granted-or-waits = inr (p .waits) };
+          granted = after-waits p (w .0);
+        },
+      )
 
   -- a lock that was granted and not released is held
   pub grant-held : (j k o g t : ℕ) → g < t → Grant label j k o g → Never (λ i. Releases (label i) j o) g t
@@ -171,11 +224,11 @@ module _ {N : ℕ} {view : ℕ → View} {label : ℕ → Label} (T : Trace N vi
       now k' = omega (arith, takes-took (T .step t) j o k' .cap, takes-may (T .step t) (invariant t) j o k' .rank)
 
   pub holds-held : (j k o t : ℕ) → Holds label j k o t → view t .weight j o < N
-  holds-held j k o t h = grant-held j k o (h .1 .0) t (h .1 .1) (h .1 .2) never
+  holds-held j k o t h = grant-held j k o (h .first) t (h .before) (h .grant) never
     where
-      never : Never (λ i. Releases (label i) j o) (h .1 .0) t
-      never i a b (inl u) = h .1 .4 i a b u
-      never i a b (inr e) = h .0 .2 i (omega (arith, grant-run label j k o (h .1 .0) (h .1 .2) .0)) b e
+      never : Never (λ i. Releases (label i) j o) (h .first) t
+      never i a b (inl u) = h .not-unlocked i a b u
+      never i a b (inr e) = h .run .not-ended i (omega (arith, grant-run label j k o (h .first) (h .grant) .begun)) b e
 
   -- a job that has not unlocked in its run still holds what it was granted since the run began
   pub grant-kept : (j k o k' g t : ℕ) → Run label j k t → view t .unlocked j ≡ 0 → k < g → g < t → Grant label j k' o g
@@ -183,8 +236,8 @@ module _ {N : ℕ} {view : ℕ → View} {label : ℕ → Label} (T : Trace N vi
   grant-kept j k o k' g t r z a l v = grant-held j k' o g t l v never
     where
       never : Never (λ i. Releases (label i) j o) g t
-      never i c d (inl u) = unlocked-on j o i t d u (λ n e f. r .2 n (omega arith) f) z
-      never i c d (inr e) = r .2 i (omega arith) d e
+      never i c d (inl u) = unlocked-on j o i t d u (λ n e f. r .not-ended n (omega arith) f) z
+      never i c d (inr e) = r .not-ended i (omega arith) d e
 
   pub held-holds : (j o t : ℕ) → view t .weight j o < N → (k : ℕ) × Holds label j k o t
   held-holds j o zero h = absurd (omega (arith, T .fresh .no-lock j o))
@@ -192,12 +245,16 @@ module _ {N : ℕ} {view : ℕ → View} {label : ℕ → Label} (T : Trace N vi
     where
       more : ¬ Releases (label t) j o → (k : ℕ) × Holds label j k o t → (k : ℕ) × Holds label j k o (suc t)
       more n x =
-          let g = x .1 .1 in (
+          let h = x .1 in (
             x .0,
-            (
-              run-on label j (x .0) t (x .1 .0) (λ e. n (inr e)),
-              (g .0, omega (arith, g .1), g .2, g .3, extend (λ i. Unlocks (label i) j o) (g .4) (λ u. n (inl u))),
-            ),
+            record {
+              first = h .first;
+              before = omega (arith, h .before);
+              grant = h .grant;
+              none-earlier = h .none-earlier;
+              not-unlocked = extend (λ i. Unlocks (label i) j o) (h .not-unlocked) (λ u. n (inl u));
+              run = run-on label j (x .0) t (h .run) (λ e. n (inr e));
+            },
           )
 
       go : (view t .weight j o < N → (k : ℕ) × Holds label j k o t) → Dec (view t .weight j o < N)
@@ -211,15 +268,13 @@ module _ {N : ℕ} {view : ℕ → View} {label : ℕ → Label} (T : Trace N vi
           let k = v .0 in
           let r = grant-run label j k o t (v .1) in (
             k,
-            (
-              run-on label j k t r (λ e. takes-stays (T .step t) j o o x (inr e)),
-              (
-                t,
-                omega arith,
-                v .1,
-                λ i a c u. b (grant-kept j k o k i t r (f .not-unlocked) a c u),
-                nothing-between (λ i. Unlocks (label i) j o) t,
-              ),
-            ),
+            record {
+              first = t;
+              before = omega arith;
+              grant = v .1;
+              none-earlier = λ i a c u. b (grant-kept j k o k i t r (f .not-unlocked) a c u);
+              not-unlocked = nothing-between (λ i. Unlocks (label i) j o) t;
+              run = run-on label j k t r (λ e. takes-stays (T .step t) j o o x (inr e));
+            },
           )
       go ih (no b) (inr m) = absurd (omega arith)
