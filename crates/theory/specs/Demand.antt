@@ -5,15 +5,16 @@
 -- Sentence 3: while j waits, each other holder is one of those that held a lock when the wait began, unless another job
 -- took its first lock since; that one is more urgent than j, for a less urgent one is given a lock only if it holds one
 -- that blocks j.
+-- Last: what the statement says besides, of two waiting jobs and of meanwhile.
 use mathlib.Core.Path.{_≡_, refl, sym, subst, _∙_}
-use mathlib.Core.Logic.{_≢_, _⊎_, inl, inr}
+use mathlib.Core.Logic.{_≢_, _↔_, _⊎_, inl, inr}
 use Prim.Native.Nat.{ℕ, zero, suc, _≤_, _<_}
 use native.Mathlib.Omega.{arith}
 use native.Mathlib.Decide.{ℕ-discrete, decLe, decLt, le-ind}
-use Rattle.theory.specs.Words.{Label, Waits, Ends, Abandons, Wakens, Never, Run, Pending, after-waits, Waiting, Grant, FirstLock, ThoseEnded, Meanwhile, MostUrgentHolder, Sentence1, Sentence2, GrantedBy, Excepted, abandoned, took-first-lock, Sentence3, Demand3}
+use Rattle.theory.specs.Words.{Label, Waits, Ends, Abandons, Wakens, Never, Run, Pending, after-waits, Waiting, Grant, FirstLock, ThoseEnded, Meanwhile, EndsLast, MostUrgentHolder, Sentence1, Sentence2, GrantedBy, Excepted, abandoned, took-first-lock, Sentence3, Demand3}
 use Rattle.theory.specs.Machine.{View, TurnsWait, Seen, Invariant}
 use Rattle.theory.specs.Keeps.{Takes, taking, took-or-kept, began-wait, takes-may, takes-stays, takes-one, taker-held, blockers-shrink, TopHolder, named-lock, named-top, top-not-waiting, one-blocker}
-use Rattle.theory.specs.Links.{Trace, extend, nothing-between, EndsRun, run-through, pending-on, pending-first, grant-run, invariant, pending-requested, active-run, takes-grant, grant-kept, holds-held, held-holds}
+use Rattle.theory.specs.Links.{Trace, extend, nothing-between, EndsRun, run-before, run-through, pending-on, pending-first, grant-run, invariant, pending-requested, active-run, takes-grant, grant-kept, holds-held, held-holds}
 
 -- some number has the property, or none below n has
 find : (P : ℕ → Type 0) → ((i : ℕ) → Dec (P i)) → (n : ℕ) → ((i : ℕ) × P i) ⊎ ((i : ℕ) → i < n → ¬ P i)
@@ -292,3 +293,35 @@ module _ {N M : ℕ} {view : ℕ → View} {label : ℕ → Label} (T : Trace N 
 
   pub demand3 : Demand3 label named
   demand3 = record { one = one; two = two; three = three }
+
+-- ---- what the statement says besides
+
+-- "all waiting jobs name one and the same job": any two of them name the same
+pub same-name : (label : ℕ → Label) (named : ℕ → ℕ → ℕ) → Demand3 label named → (t j j' : ℕ)
+    → Waiting label j t → Waiting label j' t → named t j ≡ named t j'
+same-name label named D t j j' w w' =
+    let x = D .one t j w in
+    let y = D .one t j' w' in
+    let not-less = x .most-urgent-holder .most-urgent (y .named-job) (y .most-urgent-holder .holder) in
+    let not-more = y .most-urgent-holder .most-urgent (x .named-job) (x .most-urgent-holder .holder) in
+    omega (arith, x .names .question-gives, y .names .question-gives)
+
+-- "Meanwhile is from the event that began the wait to the one that ended the last of those runs": from event r to event e
+pub meanwhile-until : (label : ℕ → Label) (j r e : ℕ) → EndsLast label j r e
+    → (i : ℕ) → Meanwhile label j r i ↔ ((r ≤ i) × (i ≤ e))
+meanwhile-until label j r e E i = (
+  λ m. (m .since, omega (arith, meanwhile-before label j r i (suc e) m (E .all-ended))),
+  λ b. record {
+    since = b .0;
+    job = E .job;
+    start = E .start;
+    one-of-those = E .one-of-those;
+    goes-on = run-before label (E .job) (E .start) i e (E .goes-on) (omega (arith, began-before)) (b .1);
+  },
+)
+  where
+    -- the run began before the wait did
+    began-before : E .start < r
+    began-before =
+        let h = E .one-of-those .held in
+        omega (arith, h .before, grant-run label (E .job) (E .start) (E .one-of-those .object) (h .first) (h .grant) .begun)

@@ -157,12 +157,23 @@ module _ (label : ℕ → Label) where
   -- "Meanwhile is from the event that began the wait to the one that ended the last of those runs,
   -- that one and its woken grant included."
   -- Event i is meanwhile: event r began the wait of job j, and just before event i one of those runs goes on.
+  -- (So i is from r to the event that EndsLast tells: meanwhile-until in Demand.)
   pub record Meanwhile (j r i : ℕ) : Type 0 where
     pub since : r ≤ i
     pub job : ℕ
     pub start : ℕ
     pub one-of-those : OneOfThose j r job start
     pub goes-on : Run job start i
+
+  -- "the one that ended the last of those runs"
+  -- Event e ended one of those runs, which went on just before it, and with it all of them have ended.
+  pub record EndsLast (j r e : ℕ) : Type 0 where
+    pub job : ℕ
+    pub start : ℕ
+    pub one-of-those : OneOfThose j r job start
+    pub goes-on : Run job start e
+    pub ends : Ends (label e) job
+    pub all-ended : ThoseEnded j r (suc e)
 
   -- ---- the three sentences: "Over any list of events from a fresh state."
 
@@ -172,7 +183,7 @@ module _ (label : ℕ → Label) where
     pub most-urgent : (h : ℕ) → LockHolder h t → ¬ MoreUrgent h m
 
   -- "name one and the same job, the most urgent lock holder, which isn't waiting"
-  -- At time t job j, in its run that event `start` began, names `named-job`.
+  -- At time t job j, in its run that event `start` began, names `named-job`. (One and the same: same-name in Demand.)
   pub record NamesMostUrgent (named : ℕ → ℕ → ℕ) (j t : ℕ) : Type 0 where
     pub named-job : ℕ
     pub start : ℕ
