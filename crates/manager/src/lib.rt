@@ -1,6 +1,7 @@
 // The lock manager: an event on a state, by value and in place.
 ghost use mathlib.Core.Path.{_≡_};
 ghost use Rattle.state.specs.State.{stateOf};
+ghost use Rattle.state.specs.Facts.{Sized};
 ghost use Rattle.events.specs.Events.{outcome};
 ghost use Rattle.manager.specs.Step.{step};
 use events::Answer;
@@ -66,7 +67,7 @@ pub fn act<'a>(
 
 // An event: its answer and the next state; a refusal returns the state handed in. The parts that an event may change are copied, and `act` runs on the copies.
 pub fn event(state: State, kind: u8, rank: u8, object: u8) -> Outcome
-    ensures { λ r. ⌜ r ≡ step state kind rank object ⌝ }
+    ensures { λ r. ⌜ (r ≡ step state kind rank object) × Sized state ⌝ }
 {
     let mut active = state.active;
     let mut unlocked = state.unlocked;

@@ -16,7 +16,7 @@ use Rattle.refusals.specs.Refusals.{isRequest, modeOf, objectAllowed, eventRefu
 pub record Accepted (s : State) (k r o : ℕ) : Type 0 where
   pub kind : between 1 6 k ≡ true
   pub rank : (1 ≤ r) × (r ≤ s .jobs)
-  pub object : objectAllowed (s .objects) k o ≡ true
+  pub object : objectAllowed s k o ≡ true
   pub not-12 : eqb k 1 && isActive s r ≡ false
   pub not-13 : not (eqb k 1) && not (isActive s r) ≡ false
   pub not-14 : between 2 5 k && isWaiting s r ≡ false
@@ -30,7 +30,7 @@ not-refused s k r o e =
     let e8 = if-zero 7 (not (wellFormed s)) _ e in
     let e9 = if-zero 8 (not (between 1 6 k)) _ (e8 .1) in
     let e10 = if-zero 9 (not (isRank s r)) _ (e9 .1) in
-    let e11 = if-zero 10 (not (objectAllowed (s .objects) k o)) _ (e10 .1) in
+    let e11 = if-zero 10 (not (objectAllowed s k o)) _ (e10 .1) in
     let e12 = if-zero 11 (eqb k 1 && isActive s r) _ (e11 .1) in
     let e13 = if-zero 12 (not (eqb k 1) && not (isActive s r)) _ (e12 .1) in
     let e14 = if-zero 13 (between 2 5 k && isWaiting s r) _ (e13 .1) in
@@ -40,7 +40,7 @@ not-refused s k r o e =
     record {
       kind = not-false (between 1 6 k) (e9 .0);
       rank = between-true 1 (s .jobs) r (not-false (isRank s r) (e10 .0));
-      object = not-false (objectAllowed (s .objects) k o) (e11 .0);
+      object = not-false (objectAllowed s k o) (e11 .0);
       not-12 = e12 .0;
       not-13 = e13 .0;
       not-14 = e14 .0;

@@ -1,10 +1,11 @@
 -- What holds in every state that is reached from a fresh one: the facts of a well-formed state, and the invariant of the theory.
 -- Assumes nothing.
-use mathlib.Core.Path.{ap, _∙_}
-use Rattle.ranks.specs.Ranks.{member}
-use Rattle.ranks.specs.RankLaws.{member-empty}
+use mathlib.Core.Path.{_≡_, ap}
+use Prim.Native.Nat.{ℕ}
+use native.Mathlib.Decide.{ℕ-discrete}
+use Rattle.basics.specs.Choice.{clash}
 use Rattle.state.specs.declared.State.{State}
-use Rattle.state.specs.State.{objectIn}
+use Rattle.state.specs.State.{requestOf, objectIn}
 use Rattle.state.specs.Facts.{Sized, Facts}
 use Rattle.state.specs.WellFormedFacts.{facts}
 use Rattle.table.specs.Fresh.{Fresh}
@@ -23,12 +24,19 @@ module _ {s : State} (z : Sized s) (f : Fresh s) where
   pub fresh-facts : Facts s
   fresh-facts = facts s z (f .well-formed)
 
+  -- a waiting job is active
+  none-waiting : (j : ℕ) → requestOf s j ≡ 0
+  none-waiting j = elim (ℕ-discrete (requestOf s j) 0) [
+    | yes e ↦ e
+    | no d ↦ absurd (clash (fresh-facts .requests j d .active) (f .jobs-idle j))
+  ]
+
   -- as the theory sees it
   pub fresh-view : M.Fresh 256 (view s)
   fresh-view = record {
-    no-lock = λ r o. no-weight s r o (λ m. ap (λ v. member v r) (f .none-held m o) ∙ member-empty r);
-    no-request = λ j. ap objectIn (f .none-waiting j);
-    idle = λ j. ap asNumber (ap (λ v. member v j) (f .none-active) ∙ member-empty j);
+    no-lock = λ r o. no-weight s r o (λ m. f .objects-unlocked m r o);
+    no-request = λ j. ap objectIn (none-waiting j);
+    idle = λ j. ap asNumber (f .jobs-idle j);
   }
 
 -- ---- every state

@@ -1,5 +1,6 @@
 // The questions on a state: a job's inherited rank and named lock, an object's ceilings, the rank that a processor runs.
 ghost use mathlib.Core.Path.{_≡_};
+ghost use Rattle.state.specs.Facts.{Sized};
 ghost use Rattle.questions.specs.Questions as Q;
 
 mod parts;
@@ -30,7 +31,7 @@ pub enum CeilingsAnswer {
 
 // A job's inherited rank. Refused by 8, 10, 13.
 pub fn inherited_rank(state: State, rank: u8) -> RankAnswer
-    ensures { λ r. ⌜ r ≡ Q.inheritedRank state rank ⌝ }
+    ensures { λ r. ⌜ (r ≡ Q.inheritedRank state rank) × Sized state ⌝ }
 {
     ask_inherited_rank(
         state.processors,
@@ -50,7 +51,7 @@ pub fn inherited_rank(state: State, rank: u8) -> RankAnswer
 
 // The lock that a job names. Refused by 8, 10, 13.
 pub fn named_lock(state: State, rank: u8) -> NamedAnswer
-    ensures { λ r. ⌜ r ≡ Q.namedLock state rank ⌝ }
+    ensures { λ r. ⌜ (r ≡ Q.namedLock state rank) × Sized state ⌝ }
 {
     ask_named_lock(
         state.processors,
@@ -70,7 +71,7 @@ pub fn named_lock(state: State, rank: u8) -> NamedAnswer
 
 // An object's two ceilings. Refused by 8, 11.
 pub fn ceilings(state: State, object: u8) -> CeilingsAnswer
-    ensures { λ r. ⌜ r ≡ Q.ceilings state object ⌝ }
+    ensures { λ r. ⌜ (r ≡ Q.ceilings state object) × Sized state ⌝ }
 {
     ask_ceilings(
         state.processors,
@@ -90,7 +91,7 @@ pub fn ceilings(state: State, object: u8) -> CeilingsAnswer
 
 // The rank that a processor runs. Refused by 8, 19.
 pub fn running(state: State, processor: u8) -> RankAnswer
-    ensures { λ r. ⌜ r ≡ Q.running state processor ⌝ }
+    ensures { λ r. ⌜ (r ≡ Q.running state processor) × Sized state ⌝ }
 {
     ask_running(
         state.processors,

@@ -2,6 +2,7 @@
 ghost use mathlib.Core.Path.{_≡_};
 ghost use Rattle.state.specs.State.{stateOf};
 ghost use Rattle.state.specs.WellFormed.{wellFormed};
+ghost use Rattle.state.specs.Facts.{Sized};
 
 mod jobs;
 mod locks;
@@ -76,9 +77,9 @@ pub fn fits<'a>(
         )
 }
 
-// Whether a state is well formed: what refusal 8 tests.
+// Whether a state is well formed: what refusal 8 tests. Whatever is handed in, its arrays have their lengths.
 pub fn is_well_formed(state: State) -> bool
-    ensures { λ r. ⌜ r ≡ wellFormed state ⌝ }
+    ensures { λ r. ⌜ (r ≡ wellFormed state) × Sized state ⌝ }
 {
     let processor_of = state.processor_of;
     let may_read = state.may_read;

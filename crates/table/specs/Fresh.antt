@@ -14,10 +14,11 @@ use borrow.Author.Tests.{lt-ltb, eq-eqb, ne-eqb}
 use Rattle.basics.specs.Choice.{if_then_else_, and-true, or-right, inside-between}
 use Rattle.basics.specs.Loops.{every, every-true}
 use Rattle.basics.specs.Arrays.{at, at-zeros}
-use Rattle.ranks.specs.Ranks.{limit, union}
+use Rattle.ranks.specs.Ranks.{limit, member, union}
+use Rattle.ranks.specs.RankLaws.{member-empty}
 use Rattle.ranks.specs.UnionLaws.{union-lt, empty-at-most-one}
 use Rattle.state.specs.declared.State.{State}
-use Rattle.state.specs.State.{read, write, mostObjects, mostProcessors, zeroState, isObject, declaredAny, holders, requestOf}
+use Rattle.state.specs.State.{read, write, mostObjects, mostProcessors, zeroState, isObject, declaredAny, holds, isActive}
 use Rattle.state.specs.WellFormed.{countsFit, processorFits, processorsFit, declarationFits, declarationsFit, declaredOfJobs, aboveIdle}
 use Rattle.state.specs.WellFormed.{heldByActive, heldByRight, locksFit, lockedOnce, oneLockEach, writtenAlone, writersAlone, waitFits, waitsFit, marksFit, wellFormed}
 use Rattle.table.specs.declared.TableRead.{TableRead}
@@ -27,13 +28,10 @@ use Rattle.table.specs.Reading.{declaredIn, tableState, refusedRead, rea
 use Rattle.table_bytes.specs.Accepted.{Accepted, accepted}
 use Rattle.table.specs.Declarations.{SetsFit, declared-fits, processor-read}
 
--- a well-formed state with every job idle, so not active, without a mark of unlocking and waiting for nothing, and every object unlocked
 pub record Fresh (s : State) : Type 0 where
   pub well-formed : wellFormed s ≡ true
-  pub none-active : s .active ≡ 0
-  pub none-marked : s .unlocked ≡ 0
-  pub none-waiting : (r : ℕ) → requestOf s r ≡ 0
-  pub none-held : (m o : ℕ) → holders s m o ≡ 0
+  pub jobs-idle : (r : ℕ) → isActive s r ≡ false
+  pub objects-unlocked : (m r o : ℕ) → holds s m r o ≡ false
 
 -- ---- the state of accepted bytes
 
@@ -112,10 +110,8 @@ module _ (b : List ℕ) (a : Accepted b) where
   unfolding tableState
   table-fresh = record {
     well-formed = table-well-formed;
-    none-active = refl;
-    none-marked = refl;
-    none-waiting = at-zeros limit;
-    none-held = λ m o. either (eqb m read) (at-zeros mostObjects o);
+    jobs-idle = member-empty;
+    objects-unlocked = λ m r o. ap (λ (set : ℕ). member set r) (either (eqb m read) (at-zeros mostObjects o)) ∙ member-empty r;
   }
     where
       either : {x : ℕ} (t : Bool) → x ≡ 0 → (if t then x else x) ≡ 0

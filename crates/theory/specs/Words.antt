@@ -175,7 +175,7 @@ module _ (label : ℕ → Label) where
     pub ends : Ends (label e) job
     pub all-ended : ThoseEnded j r (suc e)
 
-  -- ---- the three sentences: "Over any list of events from a fresh state."
+  -- ---- the three sentences, of any list of events from a fresh state
 
   -- "the most urgent lock holder"
   pub record MostUrgentHolder (m t : ℕ) : Type 0 where
