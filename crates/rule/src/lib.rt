@@ -80,7 +80,10 @@ pub fn wakeable<'a>(
     ensures { λ r. ⌜ r ≡ G.wakeable (waitsState jobs objects (now («may_read» .entry)) (now («may_write» .entry)) (now (readers .entry)) (now (writers .entry)) (now (request .entry))) ⌝ }
 {
     let mut rank: u8 = 0;
-    'search: while rank < jobs {
+    'search: loop {
+        if rank == jobs {
+            break 'search 0;
+        }
         let at = rank as usize;
         rank += 1;
         if request[at] != 0 {
@@ -92,8 +95,7 @@ pub fn wakeable<'a>(
                     continue 'search;
                 }
             }
-            return rank;
+            break 'search rank;
         }
     }
-    0
 }

@@ -42,11 +42,11 @@ cast-at c = search needs
 add-rank : tie.Need-add-rank Inv-loop μ-loop Inv-search μ-search
 add-rank c = search needs
 
-mul-if1 : tie.Need-mul-if1 Inv-loop μ-loop Inv-search μ-search
-mul-if1 c = search needs
+mul-if2 : tie.Need-mul-if2 Inv-loop μ-loop Inv-search μ-search
+mul-if2 c = search needs
 
-element-copy-out-if1 : tie.Need-element-copy-out-if1 Inv-loop μ-loop Inv-search μ-search
-element-copy-out-if1 c = search needs
+element-copy-out-if2 : tie.Need-element-copy-out-if2 Inv-loop μ-loop Inv-search μ-search
+element-copy-out-if2 c = search needs
 
 loop-holds : tie.Need-loop-holds Inv-loop μ-loop Inv-search μ-search
 unfolding least
@@ -70,7 +70,7 @@ search-again c =
     let rank = c .before .before .before .before .before .before .before .before .search .rank in
     let key = keyAt (now (a .may-read)) (now (a .may-write)) (now (a .readers)) (now (a .writers)) (rank + 1) (c .before .before .before .before .loop .done + 1) in
     let stops : passesBelow (rank + 1) key ≡ false =
-    ap (passesBelow (rank + 1)) (sym (c .before .before .key-at .ensures)) ∙ sym (c .before .passes .ensures) ∙ not-true _ (c .if2 .taken)
+    ap (passesBelow (rank + 1)) (sym (c .before .before .key-at .ensures)) ∙ sym (c .before .passes .ensures) ∙ not-true _ (c .if3 .taken)
     in (
       search needs,
       pass-stopped (a .jobs) (a .objects) (now (a .may-read)) (now (a .may-write)) (now (a .readers)) (now (a .writers)) (now (a .request)) rank (c .before .before .before .before .before .before .before .before .search .inv .1) (c .before .before .before .before .loop .done + 1) (omega arith) (search needs) stops,
@@ -83,19 +83,10 @@ loop-again : tie.Need-loop-again Inv-loop μ-loop Inv-search μ-search
 loop-again c =
     let a = c .before .before .before .before .before .before .before .before .before .args in
     let rank = c .before .before .before .before .before .before .before .before .search .rank in
-    let passed : passesBelow (rank + 1) (c .before .before .key-at .result) ≡ true = sym (c .before .passes .ensures) ∙ not-false _ (c .if2 .left) in (
+    let passed : passesBelow (rank + 1) (c .before .before .key-at .result) ≡ true = sym (c .before .passes .ensures) ∙ not-false _ (c .if3 .left) in (
       search needs,
       omega (arith, ltb-true (rank + 1) (c .before .before .key-at .result / 65536) passed, c .before .before .key-at .ensures, least-more (c .before .before .before .before .loop .done) noKey (keyAt (now (a .may-read)) (now (a .may-write)) (now (a .readers)) (now (a .writers)) (rank + 1))),
     )
-
-returns : tie.Need-returns Inv-loop μ-loop Inv-search μ-search
-unfolding wakeable
-returns c =
-    let a = c .before .before .before .before .before .before .args in
-    let rank = c .before .before .before .before .before .search .rank in
-    let all : c .before .loop .done ≡ a .objects = omega arith in
-    found (a .jobs) (a .objects) (now (a .may-read)) (now (a .may-write)) (now (a .readers)) (now (a .writers)) (now (a .request)) rank (c .before .before .before .before .before .search .inv .1) (search needs) (c .before .before .if1 .taken)
-    (rw all at (c .before .loop .inv .1))
 
 search-less-2 : tie.Need-search-less-2 Inv-loop μ-loop Inv-search μ-search
 search-less-2 c = search needs
@@ -105,15 +96,23 @@ search-again-2 c =
     let a = c .before .before .before .before .args in
     let rank = c .before .before .before .search .rank in (
       search needs,
-      pass-idle (a .jobs) (a .objects) (now (a .may-read)) (now (a .may-write)) (now (a .readers)) (now (a .writers)) (now (a .request)) rank (c .before .before .before .search .inv .1) (c .if1 .left),
+      pass-idle (a .jobs) (a .objects) (now (a .may-read)) (now (a .may-write)) (now (a .readers)) (now (a .writers)) (now (a .request)) rank (c .before .before .before .search .inv .1) (c .if2 .left),
     )
+
+returns : tie.Need-returns Inv-loop μ-loop Inv-search μ-search
+unfolding wakeable
+returns c =
+    let a = c .before .before .args in
+    sym (rw (c .if1 .taken) at (c .before .search .inv .1))
 
 returns-2 : tie.Need-returns-2 Inv-loop μ-loop Inv-search μ-search
 unfolding wakeable
 returns-2 c =
-    let a = c .before .before .args in
-    let all : c .before .search .rank ≡ a .jobs = omega arith in
-    sym (rw all at (c .before .search .inv .1))
+    let a = c .before .before .before .before .before .before .args in
+    let rank = c .before .before .before .before .before .search .rank in
+    let all : c .before .loop .done ≡ a .objects = omega arith in
+    found (a .jobs) (a .objects) (now (a .may-read)) (now (a .may-write)) (now (a .readers)) (now (a .writers)) (now (a .request)) rank (c .before .before .before .before .before .search .inv .1) (search needs) (c .before .before .if2 .taken)
+    (rw all at (c .before .loop .inv .1))
 
 pub wakeable-spec : {M : Type 1} → statement M
 wakeable-spec =
@@ -126,8 +125,8 @@ wakeable-spec =
     search-holds
     cast-at
     add-rank
-    mul-if1
-    element-copy-out-if1
+    mul-if2
+    element-copy-out-if2
     loop-holds
     add-done
     key-at-requires
@@ -136,7 +135,7 @@ wakeable-spec =
     search-again
     loop-less
     loop-again
-    returns
     search-less-2
     search-again-2
+    returns
     returns-2)
