@@ -19,8 +19,9 @@ use Rattle.state.specs.Modes.{either-mode}
 use Rattle.state.specs.WellFormedFacts.{held-rank, held-object}
 use Rattle.weights.specs.Weights.{writeCeiling, absoluteCeiling, moreUrgent, weight}
 use Rattle.weights.specs.Keys.{lockKey, noKey, keyWeight, lowestKey}
-use Rattle.weights.specs.KeyLaws.{OthersLock, KeyOfOther, key-below, key-at}
+use Rattle.weights.specs.KeyLaws.{KeyOfOther, key-below, key-at}
 use Rattle.rule.specs.Granting.{passes}
+use Rattle.rule.specs.GrantingTheorems.{others-lock}
 use Rattle.theory.specs.Machine.{Blocked, Passes}
 use Rattle.theory.specs.Key.{Lowest, key-passes, key-blocked}
 
@@ -106,11 +107,6 @@ module _ (s : State) where
   -- ---- the lowest key
 
   module _ (F : Facts s) where
-    pub others-lock : (j m r o : ℕ) → r ≢ j → Mode m → holds s m r o ≡ true → OthersLock s j m r o
-    others-lock j m r o d k h =
-        let rank = held-rank s F m r o h in
-        record { mode = k; other = d; rank = (rank .0, omega (arith, rank .1, F .counts .jobs)); object = held-object s F m r o h; held = h }
-
     pub lock-small : (r o : ℕ) → lockWeight r o < 256 → (r < 256) × (o < 256)
     lock-small r o l =
         let h = lock-held r o l in
@@ -119,7 +115,8 @@ module _ (s : State) where
     lowest-below : (j r o : ℕ) → r ≢ j → lockWeight r o < 256 → lowestKey s j ≤ lockKey (lockWeight r o) r o
     lowest-below j r o d l =
         let h = lock-held r o l in
-        omega (arith, key-below (weight s) s j (h .mode) r o (others-lock j (h .mode) r o d (h .known) (h .held)), h .weighs)
+        let lock = others-lock s F j (h .mode) r o (record { mode = h .known; other = d; held = h .held }) in
+        omega (arith, key-below (weight s) s j (h .mode) r o lock, h .weighs)
 
     pub lowest : (j : ℕ) → Lowest 256 lockWeight j (lowestKey s j)
     lowest j = record { below = lowest-below j; found = found (key-at (weight s) s j) }
