@@ -28,7 +28,7 @@ pub record HeldByAnother (s : State) (j m r o : ℕ) : Type 0 where
   pub other : r ≢ j
   pub held : holds s m r o ≡ true
 
--- rank j "is more urgent than the weight of every lock held by others"
+-- rank j "is more urgent than the weight of every lock held by others": the lower number is the more urgent
 abbrev pub MoreUrgentThanOthers : State → ℕ → Type 0
 MoreUrgentThanOthers s j = (m r o : ℕ) → HeldByAnother s j m r o → j < weight s m r o
 
@@ -60,10 +60,10 @@ key-first w r o v q p hr ho hq hp l = elim (decLt w v) [
   | no a ↦ elim (decLt r q) [ yes b ↦ by-rank (omega arith) b | no b ↦ by-object (omega arith) (omega arith) (omega arith) ]
 ]
 
-first-at-most : (w r o v q p : ℕ) → ComesFirst w r o v q p → (w ≤ v) × (w ≡ v → r ≤ q) × (w ≡ v → r ≡ q → o ≤ p)
-first-at-most w r o v q p (by-weight a) = (omega arith, λ e. absurd (omega arith), λ e f. absurd (omega arith))
-first-at-most w r o v q p (by-rank e a) = (omega arith, λ f. omega arith, λ f g. absurd (omega arith))
-first-at-most w r o v q p (by-object e f a) = (omega arith, λ g. omega arith, λ g h. a)
+first-at-most : {w r o v q p : ℕ} → ComesFirst w r o v q p → (w ≤ v) × (w ≡ v → r ≤ q) × (w ≡ v → r ≡ q → o ≤ p)
+first-at-most (by-weight a) = (omega arith, λ e. absurd (omega arith), λ e f. absurd (omega arith))
+first-at-most (by-rank e a) = (omega arith, λ f. omega arith, λ f g. absurd (omega arith))
+first-at-most (by-object e f a) = (omega arith, λ g. omega arith, λ g h. a)
 
 -- ---- from the facts of a well-formed state
 
@@ -149,11 +149,11 @@ names-nobody s j c = (ap keyHolder (key-is c), ap keyObject (key-is c))
     key-is (inl e) = simp e
     key-is (inr e) = simp (e, and-false)
 
--- At most one rank and object are named so.
+-- A request meets at most one such lock: whoever has a lock that is first, its rank and its object are those of the theorems above.
 pub first-is-one : (s : State) (j r o q p : ℕ) → FirstOfOthers s j r o → FirstOfOthers s j q p → (r ≡ q) × (o ≡ p)
 first-is-one s j r o q p a b =
-    let l = first-at-most _ _ _ _ _ _ (a .first (b .mode) q p (b .lock)) in
-    let g = first-at-most _ _ _ _ _ _ (b .first (a .mode) r o (a .lock)) in
+    let l = first-at-most (a .first (b .mode) q p (b .lock)) in
+    let g = first-at-most (b .first (a .mode) r o (a .lock)) in
     let weight-is : weight s (a .mode) r o ≡ weight s (b .mode) q p = omega (arith, l .0, g .0) in
     let rank-is : r ≡ q = omega (arith, l .1 weight-is, g .1 (sym weight-is)) in
     (rank-is, omega (arith, l .2 weight-is rank-is, g .2 (sym weight-is) (sym rank-is)))
