@@ -57,7 +57,7 @@ stoppingObject s j = keyObject (lowestKey s j)
 key-first : (w r o v q p : ℕ) → r < 256 → o < 256 → q < 256 → p < 256 → lockKey w r o ≤ lockKey v q p → ComesFirst w r o v q p
 key-first w r o v q p hr ho hq hp l = elim (decLt w v) [
   | yes a ↦ by-weight a
-  | no a ↦ elim (decLt r q) [ yes b ↦ by-rank (omega arith) b | no b ↦ by-object (omega arith) (omega arith) (omega arith) ]
+  | no a ↦ elim (decLt r q) [ yes b ↦ by-rank (omega arith) (omega arith) | no b ↦ by-object (omega arith) (omega arith) (omega arith) ]
 ]
 
 first-at-most : {w r o v q p : ℕ} → ComesFirst w r o v q p → (w ≤ v) × (w ≡ v → r ≤ q) × (w ≡ v → r ≡ q → o ≤ p)
