@@ -101,9 +101,7 @@ search-again-2 c =
 
 returns : tie.Need-returns Inv-loop μ-loop Inv-search μ-search
 unfolding wakeable
-returns c =
-    let a = c .before .before .args in
-    sym (rw (c .if1 .taken) at (c .before .search .inv .1))
+returns c = sym (rw (c .if1 .taken) at (c .before .search .inv .1))
 
 returns-2 : tie.Need-returns-2 Inv-loop μ-loop Inv-search μ-search
 unfolding wakeable
