@@ -27,7 +27,8 @@ use Rattle.events.specs.Answers.{paper}
 use Rattle.refusals.specs.Refusals.{isRequest, modeOf, refusal, processorRefusal}
 use Rattle.events.specs.Events.{requestMeeting, request, accepted}
 use Rattle.manager.specs.Step.{step, step-accepted}
-use Rattle.questions.specs.Answers.{rankReply, value}
+use Rattle.basics.specs.Replies.{value}
+use Rattle.questions.specs.Answers.{rankReply}
 use Rattle.questions.specs.Questions.{running}
 use Rattle.theory.specs.Keeps.{TopHolder, named-top, top-not-waiting}
 use Rattle.promises.specs.Terms.{named, oldRequest}

@@ -16,7 +16,8 @@ use Rattle.table.specs.Fresh.{Fresh, read-fresh}
 use Rattle.rule.specs.Granting.{passes, wakeable}
 use Rattle.events.specs.Answers.{paper}
 use Rattle.refusals.specs.Refusals.{isRequest, modeOf}
-use Rattle.questions.specs.Answers.{rankReply, value}
+use Rattle.basics.specs.Replies.{value}
+use Rattle.questions.specs.Answers.{rankReply}
 use Rattle.questions.specs.Questions.{running}
 use Rattle.theory.specs.Words.{Demand3}
 use Rattle.theory.specs.Lists.{stateAt, labelAt, demand3-of}

@@ -15,7 +15,8 @@ use Rattle.events.specs.Answers.{Paper, paper}
 use Rattle.refusals.specs.Refusals.{isRequest, modeOf}
 use Rattle.events.specs.Events.{requestMeeting}
 use Rattle.manager.specs.Step.{step}
-use Rattle.questions.specs.Answers.{namedReply, value}
+use Rattle.basics.specs.Replies.{value}
+use Rattle.questions.specs.Answers.{namedReply}
 use Rattle.questions.specs.Questions.{namedLock}
 use Rattle.theory.specs.Words.{Label}
 use Rattle.theory.specs.Build.{labelled}

@@ -1,24 +1,10 @@
 -- The paper's number and values of each answer to a question (01, "Refusals by who can cause them"). The promises are stated through these definitions.
 -- Assumes nothing.
-use Prim.Native.Nat.{ℕ}
-use mathlib.Core.List.{List, [], _∷_}
-use lib.ListN.{getD}
+use mathlib.Core.List.{[], _∷_}
+use Rattle.basics.specs.Replies.{Reply, refused, told}
 use Rattle.questions.specs.declared.RankAnswer.{RankAnswer}
 use Rattle.questions.specs.declared.NamedAnswer.{NamedAnswer}
 use Rattle.questions.specs.declared.CeilingsAnswer.{CeilingsAnswer}
-
--- a refusal's number, 0 where there is none, and the values
-pub record Reply : Type 0 where
-  pub refusal : ℕ
-  pub values : List ℕ
-
--- refused: the number, and no values
-abbrev pub refused : ℕ → Reply
-refused n = record { refusal = n; values = [] }
-
--- answered: no refusal, and the values
-abbrev pub told : List ℕ → Reply
-told values = record { refusal = 0; values = values }
 
 -- a job's inherited rank, and "the rank a processor runs (0 if idle)"
 abbrev pub rankReply : RankAnswer → Reply
@@ -34,7 +20,3 @@ namedReply (NamedAnswer.Refused n) = refused n
 abbrev pub ceilingsReply : CeilingsAnswer → Reply
 ceilingsReply (CeilingsAnswer.Ceilings write absolute) = told (write ∷ absolute ∷ [])
 ceilingsReply (CeilingsAnswer.Refused n) = refused n
-
--- the value at an index, or another number where there is none
-abbrev pub value : Reply → ℕ → ℕ → ℕ
-value reply i otherwise = getD (reply .values) i otherwise

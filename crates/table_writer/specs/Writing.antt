@@ -8,11 +8,10 @@ use lib.ListN.{length, take, drop}
 use lib.Dec.{eqb, ltb}
 use Rattle.basics.specs.Choice.{if_then_else_, _if_else_}
 use Rattle.basics.specs.Loops.{joined}
+use Rattle.basics.specs.Replies.{Reply, refused, told}
 use Rattle.state.specs.declared.State.{State}
 use Rattle.state.specs.State.{read, write, mayLock}
 use Rattle.state.specs.WellFormed.{wellFormed}
-use Rattle.table_writer.specs.declared.Written.{Written}
-use Rattle.table_writer.specs.declared.Written.the-variants.{Length, Refused}
 
 -- 16 bits, high byte first
 abbrev pub wordBytes : ℕ → List ℕ
@@ -47,9 +46,9 @@ tableBytes s =
 unfoldable pub writeRefusal : State → List ℕ → ℕ
 writeRefusal s buffer = 8 if not (wellFormed s) else 20 if ltb (length buffer) (length (tableBytes s)) else 0
 
--- the answer
-unfoldable pub writeTable : State → List ℕ → Written
-writeTable s buffer = if eqb (writeRefusal s buffer) 0 then Length (length (tableBytes s)) else Refused (writeRefusal s buffer)
+-- the answer: "answers its length", or the refusal's number
+unfoldable pub writeTable : State → List ℕ → Reply
+writeTable s buffer = if eqb (writeRefusal s buffer) 0 then told (length (tableBytes s) ∷ []) else refused (writeRefusal s buffer)
 
 -- the buffer afterwards
 unfoldable pub written : State → List ℕ → List ℕ

@@ -1,5 +1,7 @@
 // A state's table written into a lent buffer.
 ghost use mathlib.Core.Path.{_≡_};
+ghost use Rattle.state.specs.Facts.{Sized};
+ghost use Rattle.table_writer.specs.Answers.{writtenReply};
 ghost use Rattle.table_writer.specs.Writing.{writeTable, written};
 
 mod count;
@@ -19,7 +21,7 @@ pub enum Written {
 // Lays the state's table into the front of the buffer and leaves the rest; answers the table's length.
 // Refused by 8 if the state is not well formed, then by 20 if the buffer is shorter than the table: the buffer is then untouched.
 pub fn write_table(state: State, buf: &mut [u8]) -> Written
-    ensures { λ r. ⌜ (r ≡ writeTable state (now (buf .entry))) × (now (buf .exit) ≡ written state (now (buf .entry))) ⌝ }
+    ensures { λ r. ⌜ (writtenReply r ≡ writeTable state (now (buf .entry))) × (now (buf .exit) ≡ written state (now (buf .entry))) × Sized state ⌝ }
 {
     if !is_well_formed(state) {
         return Written::Refused(8);

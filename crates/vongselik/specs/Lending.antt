@@ -2,19 +2,11 @@
 -- Assumes nothing.
 use Prim.Native.Nat.{ℕ}
 use mathlib.Core.Path.{_≡_}
-use mathlib.Core.List.{[], _∷_}
 use lib.Dec.{eqb}
 use borrow.Author.Tests.{eq-eqb, ne-eqb}
 use Rattle.basics.specs.Choice.{if_then_else_}
 use Rattle.state.specs.declared.State.{State}
 use Rattle.table.specs.declared.TableRead.{TableRead}
-use Rattle.table_writer.specs.declared.Written.{Written}
-use Rattle.questions.specs.Answers.{Reply, refused, told}
-
--- the refusal's number of the table writer, or 0 and the length of what it wrote
-abbrev pub writtenReply : Written → Reply
-writtenReply (Written.Length n) = told (n ∷ [])
-writtenReply (Written.Refused n) = refused n
 
 -- ---- what a table read into a lent state leaves: the state and the used count of the table, or what was there before
 

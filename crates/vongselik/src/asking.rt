@@ -2,7 +2,8 @@
 ghost use mathlib.Core.Path.{_≡_};
 ghost use Rattle.state.specs.State.{stateOf};
 ghost use Rattle.questions.specs.Questions as Q;
-ghost use Rattle.questions.specs.Answers.{rankReply, namedReply, ceilingsReply, value};
+ghost use Rattle.basics.specs.Replies.{value};
+ghost use Rattle.questions.specs.Answers.{rankReply, namedReply, ceilingsReply};
 use questions::CeilingsAnswer;
 use questions::NamedAnswer;
 use questions::RankAnswer;

@@ -1,8 +1,9 @@
 // The lock manager for C: events, questions and tables on the parts of a state of the caller's, each lent by itself.
 ghost use mathlib.Core.Path.{_≡_};
 ghost use Rattle.state.specs.State.{stateOf};
+ghost use Rattle.events.specs.Answers.{paper};
 ghost use Rattle.manager.specs.Step.{step};
-ghost use Rattle.vongselik.specs.Packing.{packed};
+ghost use Rattle.vongselik.specs.Packing.{packed, unpacked};
 
 mod asking;
 mod entries;
@@ -15,7 +16,7 @@ use state::JobProcessors;
 use state::JobRequests;
 use state::ObjectSets;
 
-// An event: its answer packed into a number, and the parts of the next state. A refusal, by 8 to 18, leaves every part as it was.
+// An event: its answer packed into a number that can be taken apart again, and the parts of the next state. A refusal, by 8 to 18, leaves every part as it was.
 #[no_mangle]
 pub extern "C" fn vongselik_parts_event<'a>(
     processors: u8,
@@ -34,6 +35,8 @@ pub extern "C" fn vongselik_parts_event<'a>(
     object: u8,
 ) -> u32
     ensures answer { λ r. ⌜ r ≡ packed (step (stateOf processors jobs objects (now («processor_of» .entry)) (now («may_read» .entry)) (now («may_write» .entry))
+        (now (active .entry)) (now (unlocked .entry)) (now (readers .entry)) (now (writers .entry)) (now (request .entry))) kind rank object .answer) ⌝ }
+    ensures apart { λ r. ⌜ unpacked r ≡ paper (step (stateOf processors jobs objects (now («processor_of» .entry)) (now («may_read» .entry)) (now («may_write» .entry))
         (now (active .entry)) (now (unlocked .entry)) (now (readers .entry)) (now (writers .entry)) (now (request .entry))) kind rank object .answer) ⌝ }
     ensures next { λ _. ⌜ stateOf processors jobs objects (now («processor_of» .entry)) (now («may_read» .entry)) (now («may_write» .entry))
         (now (active .exit)) (now (unlocked .exit)) (now (readers .exit)) (now (writers .exit)) (now (request .exit))

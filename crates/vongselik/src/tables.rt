@@ -3,8 +3,8 @@ ghost use mathlib.Core.Path.{_≡_};
 ghost use Rattle.state.specs.State.{stateOf};
 ghost use Rattle.table.specs.Reading.{readTable};
 ghost use Rattle.table_writer.specs.Writing.{writeTable, written};
-ghost use Rattle.vongselik.specs.Lending.{stateRead, usedRead, writtenReply};
-ghost use Rattle.questions.specs.Answers.{value};
+ghost use Rattle.vongselik.specs.Lending.{stateRead, usedRead};
+ghost use Rattle.basics.specs.Replies.{value};
 use ranks::RankSet;
 use state::JobProcessors;
 use state::JobRequests;
@@ -80,12 +80,12 @@ pub extern "C" fn vongselik_parts_write_table<'a>(
     buffer: &mut [u8],
     length: &mut usize,
 ) -> u8
-    ensures number { λ r. ⌜ r ≡ writtenReply (writeTable (stateOf processors jobs objects (now («processor_of» .entry)) (now («may_read» .entry)) (now («may_write» .entry))
-        active unlocked (now (readers .entry)) (now (writers .entry)) (now (request .entry))) (now (buffer .entry))) .refusal ⌝ }
+    ensures number { λ r. ⌜ r ≡ writeTable (stateOf processors jobs objects (now («processor_of» .entry)) (now («may_read» .entry)) (now («may_write» .entry))
+        active unlocked (now (readers .entry)) (now (writers .entry)) (now (request .entry))) (now (buffer .entry)) .refusal ⌝ }
     ensures buffer { λ _. ⌜ now (buffer .exit) ≡ written (stateOf processors jobs objects (now («processor_of» .entry)) (now («may_read» .entry)) (now («may_write» .entry))
         active unlocked (now (readers .entry)) (now (writers .entry)) (now (request .entry))) (now (buffer .entry)) ⌝ }
-    ensures length { λ _. ⌜ now (length .exit) ≡ value (writtenReply (writeTable (stateOf processors jobs objects (now («processor_of» .entry)) (now («may_read» .entry)) (now («may_write» .entry))
-        active unlocked (now (readers .entry)) (now (writers .entry)) (now (request .entry))) (now (buffer .entry)))) 0 (now (length .entry)) ⌝ }
+    ensures length { λ _. ⌜ now (length .exit) ≡ value (writeTable (stateOf processors jobs objects (now («processor_of» .entry)) (now («may_read» .entry)) (now («may_write» .entry))
+        active unlocked (now (readers .entry)) (now (writers .entry)) (now (request .entry))) (now (buffer .entry))) 0 (now (length .entry)) ⌝ }
 {
     let state = State {
         processors,

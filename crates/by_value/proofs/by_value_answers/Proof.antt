@@ -64,7 +64,7 @@ loop-again c =
     let asked = c .before .before .before .before .before .before .before in
     let events : List ℕ = now (asked .before .before .before .before .before .args .events) in
     let outcome = c .before .before .event .ensures in
-    let number = c .pack .ensures ∙ ap (λ (o : Outcome). packed (o .answer)) outcome in (
+    let number = c .pack .ensures .0 ∙ ap (λ (o : Outcome). packed (o .answer)) outcome in (
       omega arith,
       asked .loop .inv .1
           ∙ mixed-next (asked .loop .state) (asked .loop .answers) events (asked .loop .at) (omega arith)

@@ -4,13 +4,15 @@
 use Prim.Native.Nat.{ℕ, _+_, _*_}
 use mathlib.Core.Path.{_≡_, sym, ap, _∙_}
 use mathlib.Core.Bool.{true}
+use mathlib.Core.List.{[], _∷_}
 use native.Mathlib.Omega.{arith}
 use borrow.Author.Needs.{needs}
 use borrow.Author.Tests.{not-true, not-false}
 use denote.Ref.{now}
 use lib.ListN.{length}
+use Rattle.basics.specs.Replies.{told}
 use Rattle.state.specs.WellFormed.{wellFormed}
-use Rattle.table_writer.specs.declared.Written.the-variants.{Length}
+use Rattle.state.specs.Facts.{Sized}
 use Rattle.table_writer.specs.Writing.{tableBytes}
 use Rattle.table_writer.specs.Laying.{laid}
 use Rattle.table_writer.specs.EntryLaws.{state-entries}
@@ -23,17 +25,24 @@ use Rattle.table_writer.proofs.write_table.Tie as tie
 
 -- ---- what is known at three places: at the start, where the state is well formed, and where the entries are counted
 
-processors-long : (c : tie.Start) → length (c .args .t1 .«processor_of») ≡ 64
-processors-long c = search needs
+sized : (c : tie.Start) → Sized (c .args .t1)
+sized c = record {
+  processor-of = search needs;
+  may-read = search needs;
+  may-write = search needs;
+  readers = search needs;
+  writers = search needs;
+  request = search needs;
+}
 
 well-formed : (c : tie.Else1) → wellFormed (c .before .before .before .args .t1) ≡ true
-well-formed c = sym (c .before .is-well-formed .ensures) ∙ not-false _ (c .if1 .left)
+well-formed c = sym (c .before .is-well-formed .ensures .0) ∙ not-false _ (c .if1 .left)
 
 long : (c : tie.After-entry-count) → length (tableBytes (c .before .before .before .before .before .before .before .args .t1)) ≡ 10 + c .before .before .before .before .before .before .before .args .t1 .jobs + 3 * c .entry-count .result
 long c =
     let start = c .before .before .before .before .before .before .before in
     let s = start .args .t1 in
-    whole-length s (table-fits s (well-formed (c .before .before .before .before))) (processors-long start)
+    whole-length s (table-fits s (well-formed (c .before .before .before .before))) (sized start .processor-of)
     ∙ ap (λ (n : ℕ). 10 + s .jobs + 3 * n) (sym (c .entry-count .ensures .0))
 
 -- ---- the needs
@@ -44,8 +53,8 @@ is-well-formed-requires c κs = search needs
 returns : tie.Need-returns
 returns c =
     let start = c .before .before .before in
-    let r = refused-by-8 (start .args .t1) (now (start .args .buf)) (sym (c .before .is-well-formed .ensures) ∙ not-true _ (c .if1 .taken)) in
-    (sym (r .0), sym (r .1))
+    let r = refused-by-8 (start .args .t1) (now (start .args .buf)) (sym (c .before .is-well-formed .ensures .0) ∙ not-true _ (c .if1 .taken)) in
+    (sym (r .0), sym (r .1), sized start)
 
 entry-count-requires : tie.Need-entry-count-requires
 entry-count-requires c κs = table-fits (c .before .before .before .before .before .before .args .t1) (well-formed (c .before .before .before)) .objects-high
@@ -67,7 +76,7 @@ returns-2 c =
     let start = c .before .before .before .before .before .before .before .before in
     let r =
     refused-by-20 (start .args .t1) (now (start .args .buf)) (well-formed (c .before .before .before .before .before)) (omega (arith, long (c .before), c .if2 .taken)) in
-    (sym (r .0), sym (r .1))
+    (sym (r .0), sym (r .1), sized start)
 
 lay-table-requires : tie.Need-lay-table-requires
 lay-table-requires c κs =
@@ -77,7 +86,7 @@ lay-table-requires c κs =
     let fits = table-fits s (well-formed (c .before .before .before .before .before .before .before .before .before .before)) in (
       fits .jobs-high,
       fits .objects-high,
-      processors-long start,
+      sized start .processor-of,
       ap (λ (n : ℕ). 3 * n) (counted .entry-count .ensures .0) ∙ entries-total s fits ∙ ap length (state-entries s),
       c .before .before .before .before .before .if2 .left,
     )
@@ -92,8 +101,9 @@ returns-3 c =
     let buffer = now (start .args .buf) in
     let length-is = long (c .before .before .before .before .before .before .before .before .before) in
     let r = table-written s buffer (well-formed (c .before .before .before .before .before .before .before .before .before .before .before .before .before)) (omega (arith, length-is, c .before .before .before .before .before .before .before .before .if2 .left)) in (
-      ap Length (sym length-is) ∙ sym (r .0),
+      ap (λ (n : ℕ). told (n ∷ [])) (sym length-is) ∙ sym (r .0),
       c .before .before .lay-table .ensures ∙ ap (laid buffer 0) (state-table s) ∙ laid-front buffer (tableBytes s) ∙ sym (r .1),
+      sized start,
     )
 
 pub write-table-spec : {M : Type 1} → statement M

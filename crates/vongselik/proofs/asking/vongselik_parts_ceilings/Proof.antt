@@ -3,7 +3,8 @@
 use denote.Ref.{now}
 use mathlib.Core.Path.{sym, ap, _∙_}
 use Rattle.questions.specs.declared.CeilingsAnswer.{CeilingsAnswer}
-use Rattle.questions.specs.Answers.{ceilingsReply, value}
+use Rattle.basics.specs.Replies.{value}
+use Rattle.questions.specs.Answers.{ceilingsReply}
 use borrow.Author.Needs.{needs}
 use Rattle.vongselik.proofs.asking.vongselik_parts_ceilings.Statement.{statement}
 use Rattle.vongselik.proofs.asking.vongselik_parts_ceilings.Tie as tie

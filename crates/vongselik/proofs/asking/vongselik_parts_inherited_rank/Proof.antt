@@ -3,7 +3,8 @@
 use denote.Ref.{now}
 use mathlib.Core.Path.{sym, ap, _∙_}
 use Rattle.questions.specs.declared.RankAnswer.{RankAnswer}
-use Rattle.questions.specs.Answers.{rankReply, value}
+use Rattle.basics.specs.Replies.{value}
+use Rattle.questions.specs.Answers.{rankReply}
 use borrow.Author.Needs.{needs}
 use Rattle.vongselik.proofs.asking.vongselik_parts_inherited_rank.Statement.{statement}
 use Rattle.vongselik.proofs.asking.vongselik_parts_inherited_rank.Tie as tie

@@ -3,7 +3,8 @@
 use denote.Ref.{now}
 use mathlib.Core.Path.{sym, ap, _∙_}
 use Rattle.questions.specs.declared.NamedAnswer.{NamedAnswer}
-use Rattle.questions.specs.Answers.{namedReply, value}
+use Rattle.basics.specs.Replies.{value}
+use Rattle.questions.specs.Answers.{namedReply}
 use borrow.Author.Needs.{needs}
 use Rattle.vongselik.proofs.asking.vongselik_parts_named_lock.Statement.{statement}
 use Rattle.vongselik.proofs.asking.vongselik_parts_named_lock.Tie as tie

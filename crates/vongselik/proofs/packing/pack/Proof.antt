@@ -1,7 +1,8 @@
 -- `vongselik::packing::pack` meets its contract: each case of the answer has the bytes that the paper gives it.
 -- Assumes nothing.
 use mathlib.Core.Path.{sym, ap, _∙_}
-use Rattle.vongselik.specs.Packing.{packed}
+use Rattle.events.specs.Answers.{paper}
+use Rattle.vongselik.specs.Packing.{packed, unpacked, unpack-four}
 use borrow.Author.Needs.{needs}
 use Rattle.vongselik.proofs.packing.pack.Statement.{statement}
 use Rattle.vongselik.proofs.packing.pack.Tie as tie
@@ -31,16 +32,28 @@ four-bytes-requires-4 : tie.Need-four-bytes-requires-4
 four-bytes-requires-4 c κs = search needs
 
 returns : tie.Need-returns
-returns c = c .four-bytes .ensures ∙ sym (ap packed (c .before .enum-told .given .1))
+returns c =
+    let e = c .four-bytes .ensures in
+    let is = c .before .enum-told .given .1 in
+    (e .0 ∙ sym (ap packed is), ap unpacked (e .0) ∙ unpack-four 1 0 0 0 (e .1) (e .2) (e .3) ∙ sym (ap paper is))
 
 returns-2 : tie.Need-returns-2
-returns-2 c = c .four-bytes2 .ensures ∙ sym (ap packed (c .before .before .answer .given .1))
+returns-2 c =
+    let e = c .four-bytes2 .ensures in
+    let is = c .before .before .answer .given .1 in
+    (e .0 ∙ sym (ap packed is), ap unpacked (e .0) ∙ unpack-four 2 _ _ _ (e .1) (e .2) (e .3) ∙ sym (ap paper is))
 
 returns-3 : tie.Need-returns-3
-returns-3 c = c .four-bytes3 .ensures ∙ sym (ap packed (c .before .before .answer2 .given .1))
+returns-3 c =
+    let e = c .four-bytes3 .ensures in
+    let is = c .before .before .answer2 .given .1 in
+    (e .0 ∙ sym (ap packed is), ap unpacked (e .0) ∙ unpack-four 3 _ 0 0 (e .1) (e .2) (e .3) ∙ sym (ap paper is))
 
 returns-4 : tie.Need-returns-4
-returns-4 c = c .four-bytes4 .ensures ∙ sym (ap packed (c .before .before .answer3 .given .1))
+returns-4 c =
+    let e = c .four-bytes4 .ensures in
+    let is = c .before .before .answer3 .given .1 in
+    (e .0 ∙ sym (ap packed is), ap unpacked (e .0) ∙ unpack-four 4 _ 0 0 (e .1) (e .2) (e .3) ∙ sym (ap paper is))
 
 pub pack-spec : {M : Type 1} → statement M
 pack-spec =

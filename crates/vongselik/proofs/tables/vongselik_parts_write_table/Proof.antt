@@ -2,9 +2,8 @@
 -- Assumes nothing.
 use denote.Ref.{now}
 use mathlib.Core.Path.{sym, ap, _∙_}
-use Rattle.table_writer.specs.declared.Written.{Written}
-use Rattle.questions.specs.Answers.{value}
-use Rattle.vongselik.specs.Lending.{writtenReply}
+use Rattle.table_writer.specs.Answers.{writtenReply}
+use Rattle.basics.specs.Replies.{Reply, value}
 use borrow.Author.Needs.{needs}
 use Rattle.vongselik.proofs.tables.vongselik_parts_write_table.Statement.{statement}
 use Rattle.vongselik.proofs.tables.vongselik_parts_write_table.Tie as tie
@@ -23,16 +22,16 @@ same-length c = search needs
 
 returns : tie.Need-returns
 returns c =
-    let e = sym (c .before .answer .given .1) ∙ c .before .before .before .before .before .write-table .ensures .0 in
-    (ap (λ (a : Written). writtenReply a .refusal) e, (c .before .before .before .before .before .write-table .ensures .1, ap (λ (a : Written). value (writtenReply a) 0 (now (c .before .before .before .before .before .before .before .before .before .before .before .before .before .before .args .length))) e))
+    let e = ap writtenReply (sym (c .before .answer .given .1)) ∙ c .before .before .before .before .before .write-table .ensures .0 in
+    (ap (λ (a : Reply). a .refusal) e, (c .before .before .before .before .before .write-table .ensures .1, ap (λ (a : Reply). value a 0 (now (c .before .before .before .before .before .before .before .before .before .before .before .before .before .before .args .length))) e))
 
 same-length-2 : tie.Need-same-length-2
 same-length-2 c = search needs
 
 returns-2 : tie.Need-returns-2
 returns-2 c =
-    let e = sym (c .before .answer2 .given .1) ∙ c .before .before .before .before .before .write-table .ensures .0 in
-    (ap (λ (a : Written). writtenReply a .refusal) e, (c .before .before .before .before .before .write-table .ensures .1, ap (λ (a : Written). value (writtenReply a) 0 (now (c .before .before .before .before .before .before .before .before .before .before .before .before .before .before .args .length))) e))
+    let e = ap writtenReply (sym (c .before .answer2 .given .1)) ∙ c .before .before .before .before .before .write-table .ensures .0 in
+    (ap (λ (a : Reply). a .refusal) e, (c .before .before .before .before .before .write-table .ensures .1, ap (λ (a : Reply). value a 0 (now (c .before .before .before .before .before .before .before .before .before .before .before .before .before .before .args .length))) e))
 
 pub vongselik-parts-write-table-spec : {M : Type 1} → statement M
 vongselik-parts-write-table-spec =
