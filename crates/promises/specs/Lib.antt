@@ -6,6 +6,7 @@ pub mod View
 pub mod Frames
 pub mod Waking
 pub mod Accepted
+pub mod Requests
 pub mod Steps
 pub mod ReachedStates
 pub mod OldRule

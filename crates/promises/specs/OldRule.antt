@@ -34,6 +34,7 @@ use Rattle.theory.specs.Keeps.{TopHolder, named-top, top-not-waiting}
 use Rattle.promises.specs.Terms.{named, oldRequest}
 use Rattle.promises.specs.Weights.{lockWeight, lock-below, weight-small, lock-held}
 use Rattle.promises.specs.View.{as-number-true, view, waits-requested, no-request, names-lowest, seen}
+use Rattle.promises.specs.Requests.{accepted-request, refused-number}
 use Rattle.promises.specs.Accepted.{not-refused}
 use Rattle.promises.specs.ReachedStates.{Kept}
 
@@ -186,15 +187,6 @@ request-same : (s : State) (m j o : ℕ) → ((passes s j ≡ true) × (oldPasse
 unfolding requestMeeting
 request-same s m j o (inl p) = simp (p .0, p .1)
 request-same s m j o (inr e) = ap (requestMeeting s m j o) (sym e)
-
--- an accepted request is a request of the rule
-accepted-request : (s : State) (k r o : ℕ) → isRequest k ≡ true → accepted s k r o ≡ request s (modeOf k) r o
-unfolding accepted
-accepted-request s k r o e = let two = between-true 2 3 k e in simp (ne-eqb k 1 (λ q. omega arith), e)
-
-refused-number : (s : State) (k r o n : ℕ) → refusal s k r o ≡ suc n → paper (step s k r o .answer) .number ≡ 4
-unfolding step
-refused-number s k r o n e = simp (e, ne-eqb (suc n) 0 (λ q. omega arith))
 
 pub one-request : (s : State) → Kept s → s .processors ≡ 1 → (k j o : ℕ) → isRequest k ≡ true → value (rankReply (running s 0)) 0 0 ≡ j
     → paper (step s k j o .answer) .number ≢ 4 → step s k j o ≡ oldRequest s (modeOf k) j o

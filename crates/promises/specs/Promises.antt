@@ -1,11 +1,13 @@
--- The promises about the manager as a whole: demand 3, well-formed states, no second wake-up, and the old rule on one processor.
+-- The promises about the manager as a whole: demand 3, well-formed states, granting and naming, no second wake-up, and the old rule on one processor.
 -- Their terms are in Terms.antt and, for demand 3, in theory/specs/Words.antt; the files between Terms.antt and this one prove them.
 -- The sentences in quotes are document 01's. Assumes nothing.
 use mathlib.Core.Path.{_≡_, ap}
-use mathlib.Core.Logic.{_≢_}
+use mathlib.Core.Logic.{_≢_, _↔_}
 use mathlib.Core.Bool.{true, false}
 use mathlib.Core.List.{List, [], _∷_}
 use Prim.Native.Nat.{ℕ, zero, suc}
+use lib.ListN.{getD}
+use Rattle.basics.specs.Choice.{between}
 use Rattle.state.specs.declared.State.{State}
 use Rattle.state.specs.State.{isWaiting}
 use Rattle.state.specs.WellFormed.{wellFormed}
@@ -14,19 +16,22 @@ use Rattle.state.specs.WellFormedFacts.{facts, facts-well-formed}
 use Rattle.table.specs.Reading.{readTable}
 use Rattle.table.specs.Fresh.{Fresh, read-fresh}
 use Rattle.rule.specs.Granting.{passes, wakeable}
+use Rattle.rule.specs.GrantingTheorems.{MoreUrgentThanOthers, FirstOfOthers}
 use Rattle.events.specs.Answers.{paper}
 use Rattle.refusals.specs.Refusals.{isRequest, modeOf}
 use Rattle.basics.specs.Replies.{value}
 use Rattle.questions.specs.Answers.{rankReply}
 use Rattle.questions.specs.Questions.{running}
 use Rattle.theory.specs.Words.{Demand3}
+use Rattle.theory.specs.Keeps.{none-passes}
 use Rattle.theory.specs.Lists.{stateAt, labelAt, demand3-of}
 use Rattle.promises.specs.Terms.{Event, outcomeOf, next, label, named, Reached, fresh, after, oldRequest}
 use Rattle.promises.specs.TableStates.{read-sized}
 use Rattle.promises.specs.View.{view}
-use Rattle.promises.specs.Steps.{step-goes}
+use Rattle.promises.specs.Steps.{step-goes, done-kind}
 use Rattle.promises.specs.ReachedStates.{kept, fresh-facts, fresh-view, manages}
 use Rattle.promises.specs.Waking.{blocked-not-woken, nobody-left}
+use Rattle.promises.specs.Requests.{granted-exactly, waits-for}
 use Rattle.promises.specs.OldRule.{one-request}
 
 -- ---- DEMAND 3
@@ -63,15 +68,41 @@ keeps-well-formed s z w e =
 pub reached-well-formed : {t : State} → Reached t → wellFormed t ≡ true
 reached-well-formed {t} r = facts-well-formed t (kept r .facts)
 
+-- ---- GRANTED OR WAITS
+-- A request, of kind 2 or 3, that is not refused, the fourth answer, in any well-formed state, handed in or reached.
+module _ (s : State) (sized : Sized s) (well : wellFormed s ≡ true) (e : Event) (kind : isRequest (e .kind) ≡ true)
+    (ok : paper (outcomeOf s e .answer) .number ≢ 4) where
+  -- "A request is granted if the requester's rank is more urgent than the weight of every lock held by others." It is the first answer.
+  pub granted-iff : (paper (outcomeOf s e .answer) .number ≡ 1) ↔ MoreUrgentThanOthers s (e .rank)
+  granted-iff = granted-exactly s sized well (e .kind) (e .rank) (e .object) kind ok
+
+  -- "Otherwise the job waits. It names the lock of another job with the most urgent weight, ties going to the lowest rank number and then
+  -- the lowest object number." It is the second answer, with holder and object as its first two values.
+  pub waits-names : paper (outcomeOf s e .answer) .number ≡ 2
+      → FirstOfOthers s (e .rank) (getD (paper (outcomeOf s e .answer) .values) 0 0) (getD (paper (outcomeOf s e .answer) .values) 1 0)
+  waits-names = waits-for s sized well (e .kind) (e .rank) (e .object) kind ok
+
 -- ---- NO SECOND WAKE-UP
--- "the search stops with the first whose request passes. It gets its lock. No second one could."
--- In every state that is reached, so also once a woken job has its lock, no waiting job's request passes;
+-- "After kinds 4, 5 and 6 the waiting jobs are searched .., and the search stops with the first whose request passes. It gets its lock.
+-- No second one could." In any well-formed state, handed in or reached: after an event of kinds 4 to 6 answered done, the third answer,
+-- no waiting job's request passes, and so the search, made again, finds nobody.
+pub no-second-request-passes : (s : State) → Sized s → wellFormed s ≡ true
+    → (e : Event) → between 4 6 (e .kind) ≡ true → paper (outcomeOf s e .answer) .number ≡ 3
+    → (j : ℕ) → isWaiting (next s e) j ≡ true → passes (next s e) j ≡ false
+no-second-request-passes s z w e kind done =
+    let goes = step-goes s (facts s z w) (e .kind) (e .rank) (e .object) in
+    blocked-not-woken (next s e) (goes .0) (none-passes (goes .1) (done-kind (e .kind) (paper (outcomeOf s e .answer)) kind done))
+
+pub no-second-one : (s : State) → Sized s → wellFormed s ≡ true
+    → (e : Event) → between 4 6 (e .kind) ≡ true → paper (outcomeOf s e .answer) .number ≡ 3 → wakeable (next s e) ≡ 0
+no-second-one s z w e kind done = nobody-left (next s e) (no-second-request-passes s z w e kind done)
+
+-- In a state that is reached no waiting job's request passes at all, whatever event was the last.
 pub no-waiting-request-passes : {t : State} → Reached t → (j : ℕ) → isWaiting t j ≡ true → passes t j ≡ false
 no-waiting-request-passes {t} r j w = blocked-not-woken t (kept r .facts) (kept r .invariant .blocked) j w
 
--- and the search, made again after any event, finds nobody.
-pub no-second-one : {s : State} → Reached s → (e : Event) → wakeable (next s e) ≡ 0
-no-second-one {s} r e = nobody-left (next s e) (no-waiting-request-passes (after r e))
+pub nobody-to-wake : {t : State} → Reached t → wakeable t ≡ 0
+nobody-to-wake {t} r = nobody-left t (no-waiting-request-passes r)
 
 -- ---- ONE PROCESSOR
 -- "Equality with it is claimed for one state, reached from a fresh one by any events, and one request of the job that

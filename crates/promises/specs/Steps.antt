@@ -7,8 +7,8 @@ use Prim.Native.Nat.{ℕ, zero, suc, _≤_, _<_}
 use native.Mathlib.Omega.{arith}
 use native.Mathlib.Decide.{ℕ-discrete}
 use lib.Dec.{eqb}
-use borrow.Author.Tests.{ne-eqb, not-false}
-use Rattle.basics.specs.Choice.{if_then_else_, clash, between-true}
+use borrow.Author.Tests.{ne-eqb, not-false, le-leb, lt-leb}
+use Rattle.basics.specs.Choice.{if_then_else_, clash, between, between-true}
 use Rattle.ranks.specs.Ranks.{limit, member}
 use Rattle.ranks.specs.RankLaws.{member-with-same, member-without-same}
 use Rattle.state.specs.declared.State.{State}
@@ -22,14 +22,14 @@ use Rattle.weights.specs.Keys.{keyHolder, keyObject, lowestKey}
 use Rattle.rule.specs.Granting.{passes, reason, wakeable}
 use Rattle.events.specs.declared.Outcome.{Outcome}
 use Rattle.events.specs.declared.Answer.the-variants.{Granted, Waits, Refused}
-use Rattle.events.specs.Answers.{paper}
+use Rattle.events.specs.Answers.{Paper, paper}
 use Rattle.refusals.specs.Refusals.{modeOf, refusal}
 use Rattle.events.specs.Events.{outcome, requestMeeting, request, woken, wake, finish, accepted}
 use Rattle.manager.specs.Step.{step}
 use Rattle.theory.specs.Words.{Label}
 use Rattle.theory.specs.Machine.{MayRequest, Step}
 use Rattle.theory.specs.Build.{labelled, refused-step, start-step, grant-step, wait-step, unlock-step, end-step}
-use Rattle.promises.specs.Terms.{labelOf}
+use Rattle.promises.specs.Terms.{happened, labelOf}
 use Rattle.promises.specs.Weights.{passes-all, fails-blocked}
 use Rattle.promises.specs.View.{asNumber, view}
 use Rattle.promises.specs.Frames.{weight-frame, requested-frame, active-frame, unlocked-frame, no-weight, no-conflict, took-grant}
@@ -192,3 +192,10 @@ step-goes s F k r o = go (refusal s k r o) refl
         subst (λ b. OutcomeGoes s k r o (if b then accepted s k r o else outcome (Refused (suc n)) s))
         (sym (ne-eqb (suc n) 0 (λ q. omega arith)))
         (F, refused-step (view s) r o)
+
+-- an event of kinds 4 to 6 that is answered done has its kind in its label
+pub done-kind : (k : ℕ) (p : Paper) → between 4 6 k ≡ true → p .number ≡ 3 → 4 ≤ happened k p
+done-kind k p kind done =
+    let known = between-true 4 6 k kind in
+    let is : happened k p ≡ k = simp (done, lt-leb k 3 (omega arith), le-leb 2 k (omega arith)) in
+    omega arith

@@ -115,6 +115,39 @@ module _ {N : ℕ} {s : View} {l : Label} {s' : View} (S : Step N s l s') where
     | inr f ↦ absurd (n f)
   ]
 
+  -- whoever waits after a search was blocked once the locks were released, or a more urgent job has been woken
+  abbrev BlockedOrWoken : ℕ → Type 0
+  BlockedOrWoken x = Blocked (S .afterRelease) x ⊎ ((w : ℕ) × (Wakens l w) × (w < x))
+
+  searched : 4 ≤ l .what → (x : ℕ) → s' .requested x ≢ 0 → BlockedOrWoken x
+  searched h x a = elim (ℕ-discrete (l .woken) 0) [
+    | yes e ↦ inl (S .search h x a (inl e))
+    | no n ↦ elim (decLt x (l .woken)) [
+      | yes k ↦ inl (S .search h x a (inr k))
+      | no k ↦ elim (ℕ-discrete (l .woken) x) [
+        | yes e ↦ absurd (a (wait-over x (inl (omega arith))))
+        | no d ↦ inr (l .woken, omega arith, omega arith)
+      ]
+    ]
+  ]
+
+  -- so it is blocked after the event: locks that are taken only weigh more, and the woken job's new lock weighs at least as urgent as that job
+  blocked-then : (x : ℕ) → BlockedOrWoken x → Blocked (s' .weight) x
+  blocked-then x (inl b) = elim taking [
+    | inl t ↦ blocked-down (took-down (takes-took (t .0) (t .1) (t .2))) b
+    | inr n ↦ blocked-down (λ r p. omega (arith, n .1 r p)) b
+  ]
+  blocked-then x (inr w) = (
+    w .0,
+    s .requested (w .0),
+    omega arith,
+    omega (arith, takes-took (w .0) (s .requested (w .0)) (inr (w .1, refl)) .cap),
+  )
+
+  -- "No second one could": after a search, in whatever state, no waiting job's request passes
+  pub none-passes : 4 ≤ l .what → (x : ℕ) → s' .requested x ≢ 0 → Blocked (s' .weight) x
+  none-passes h x a = blocked-then x (searched h x a)
+
   module _ (I : Invariant N s) where
     pub takes-may : (x o : ℕ) → Takes s l x o → MayRequest N s x
     takes-may x o (inl g) = rw (g .to-job) at (S .request (omega arith) (omega arith) .0)
@@ -127,20 +160,9 @@ module _ {N : ℕ} {s : View} {l : Label} {s' : View} (S : Step N s l s') where
       | inr t ↦ elim t [ inl w ↦ inr w | inr v ↦ absurd (a (wait-over x v)) ]
     ]
 
-    -- whoever waits after the event was blocked once the locks were released, or a more urgent job has been woken
-    pub blocked-after-release : (x : ℕ) → s' .requested x ≢ 0
-        → Blocked (S .afterRelease) x ⊎ ((w : ℕ) × (Wakens l w) × (w < x))
+    pub blocked-after-release : (x : ℕ) → s' .requested x ≢ 0 → BlockedOrWoken x
     blocked-after-release x a = elim (decLe 4 (l .what)) [
-      | yes h ↦ elim (ℕ-discrete (l .woken) 0) [
-        | yes e ↦ inl (S .search h x a (inl e))
-        | no n ↦ elim (decLt x (l .woken)) [
-          | yes k ↦ inl (S .search h x a (inr k))
-          | no k ↦ elim (ℕ-discrete (l .woken) x) [
-            | yes e ↦ absurd (a (wait-over x (inl (omega arith))))
-            | no d ↦ inr (l .woken, omega arith, omega arith)
-          ]
-        ]
-      ]
+      | yes h ↦ searched h x a
       | no h ↦ inl (blocked-down (same h) (before (waited x a)))
     ]
       where
@@ -152,18 +174,7 @@ module _ {N : ℕ} {s : View} {l : Label} {s' : View} (S : Step N s l s') where
         before (inr w) = rw (w .of-job) at (S .wait (w .waits) .2)
 
     blocked' : (x : ℕ) → s' .requested x ≢ 0 → Blocked (s' .weight) x
-    blocked' x a = elim (blocked-after-release x a) [
-      | inl b ↦ elim taking [
-        | inl t ↦ blocked-down (took-down (takes-took (t .0) (t .1) (t .2))) b
-        | inr n ↦ blocked-down (λ r p. omega (arith, n .1 r p)) b
-      ]
-      | inr w ↦ (
-        w .0,
-        s .requested (w .0),
-        omega arith,
-        omega (arith, takes-took (w .0) (s .requested (w .0)) (inr (w .1, refl)) .cap),
-      )
-    ]
+    blocked' x a = blocked-then x (blocked-after-release x a)
 
     sound' : Sound N (s' .weight)
     sound' =
