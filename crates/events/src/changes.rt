@@ -3,7 +3,7 @@ ghost use mathlib.Core.Path.{_≡_};
 ghost use Prim.Native.Nat.{_≤_};
 ghost use Rattle.basics.specs.Arrays.{put};
 ghost use Rattle.ranks.specs.Ranks as R;
-ghost use Rattle.state.specs.State.{modeIn, objectIn, grantReaders, grantWriters, releaseSet, releaseSets};
+ghost use Rattle.state.specs.State.{modeOfRequest, objectOfRequest, grantReaders, grantWriters, releaseSet, releaseSets};
 use state::JobRequests;
 use state::ObjectSets;
 
@@ -54,15 +54,15 @@ pub fn release_sets(sets: &mut ObjectSets, rank: u8)
 }
 
 // The mode of a request.
-pub fn mode_in(request: u16) -> u8
-    ensures { λ r. ⌜ r ≡ modeIn request ⌝ }
+pub fn mode_of_request(request: u16) -> u8
+    ensures { λ r. ⌜ r ≡ modeOfRequest request ⌝ }
 {
     (request / 256) as u8
 }
 
 // The object of a request.
-pub fn object_in(request: u16) -> u8
-    ensures { λ r. ⌜ r ≡ objectIn request ⌝ }
+pub fn object_of_request(request: u16) -> u8
+    ensures { λ r. ⌜ r ≡ objectOfRequest request ⌝ }
 {
     (request % 256) as u8
 }

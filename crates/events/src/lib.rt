@@ -9,8 +9,8 @@ ghost use Rattle.events.specs.Events as E;
 mod changes;
 
 use changes::grant;
-use changes::mode_in;
-use changes::object_in;
+use changes::mode_of_request;
+use changes::object_of_request;
 use changes::release_set;
 use changes::release_sets;
 use changes::store_request;
@@ -173,9 +173,9 @@ fn wake<'a>(
             readers,
             writers,
             request,
-            mode_in(asked),
+            mode_of_request(asked),
             rank,
-            object_in(asked),
+            object_of_request(asked),
         );
     }
     Answer::Done(rank)

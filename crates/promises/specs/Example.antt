@@ -11,7 +11,7 @@ use Rattle.state.specs.declared.State.{State}
 use Rattle.state.specs.State.{activate, await, grant, release, endRun}
 use Rattle.state.specs.WellFormed.{processorsFit, declarationsFit, aboveIdle, locksFit, oneLockEach}
 use Rattle.state.specs.WellFormed.{writersAlone, waitsFit, marksFit, wellFormed}
-use Rattle.table_bytes.specs.Refusals.{headerRefusal, lengthRefusal, processorRefusal, entryRefusal, entriesRefusal, tableRefusal}
+use Rattle.table_bytes.specs.Refusals.{headerRefusal, lengthRefusal, processorByteRefusal, entryRefusal, entriesRefusal, tableRefusal}
 use Rattle.table.specs.Example.{example}
 use Rattle.table.specs.Reading.{processorsOf, withRight, declaredIn, tableState, readTable}
 use Rattle.weights.specs.Weights.{weight}
@@ -22,11 +22,10 @@ use Rattle.inheritance.specs.Running.{runningRank}
 use Rattle.questions.specs.declared.RankAnswer.{RankAnswer}
 use Rattle.questions.specs.declared.RankAnswer.the-variants.{Rank}
 use Rattle.events.specs.Answers.{Paper, paper}
-use Rattle.refusals.specs.Refusals as E
-use Rattle.refusals.specs.Refusals.{eventRefusal, refusal, jobRefusal}
+use Rattle.refusals.specs.Refusals.{eventRefusal, refusal, jobRefusal, processorRefusal}
 use Rattle.events.specs.Events.{requestMeeting, woken, wake, accepted}
 use Rattle.manager.specs.Step.{step}
-use Rattle.questions.specs.Questions.{inheritedRank, running}
+use Rattle.questions.specs.Questions.{askInheritedRank, askRunning}
 
 -- ---- the four answers, by their number and values
 
@@ -49,8 +48,8 @@ pub data Line : Type 0 where
 unfoldable pub replay : State → List Line → List Line
 replay s [] = []
 replay s (event k r o a ∷ rest) = event k r o (paper (step s k r o .answer)) ∷ replay (step s k r o .state) rest
-replay s (inherits j a ∷ rest) = inherits j (inheritedRank s j) ∷ replay s rest
-replay s (runs p a ∷ rest) = runs p (running s p) ∷ replay s rest
+replay s (inherits j a ∷ rest) = inherits j (askInheritedRank s j) ∷ replay s rest
+replay s (runs p a ∷ rest) = runs p (askRunning s p) ∷ replay s rest
 
 -- "those twelve answers, and that after event 4 job 4 has inherited rank 2, after 7 processor 0 is idle,
 -- after 11 job 3 has inherited rank 1"
@@ -79,8 +78,8 @@ unfolding exampleLines replay
     every least firstNonzero mapped member with without first trailingZeros ones
     activate await grant release endRun
     processorsFit declarationsFit aboveIdle locksFit oneLockEach writersAlone waitsFit marksFit wellFormed
-    headerRefusal lengthRefusal processorRefusal entryRefusal entriesRefusal tableRefusal
+    headerRefusal lengthRefusal processorByteRefusal entryRefusal entriesRefusal tableRefusal
     processorsOf withRight declaredIn tableState readTable
     weight othersKey objectKey lowestKeyBy namedKey reason wakeable R.inheritedRank runningRank
-    eventRefusal refusal jobRefusal E.processorRefusal requestMeeting woken wake accepted step inheritedRank running
+    eventRefusal refusal jobRefusal processorRefusal requestMeeting woken wake accepted step askInheritedRank askRunning
 example-answers = (refl, refl)

@@ -9,7 +9,7 @@ use native.Mathlib.Decide.{ℕ-discrete}
 use Rattle.ranks.specs.Ranks.{member}
 use Rattle.ranks.specs.RankLaws.{member-with-same}
 use Rattle.state.specs.declared.State.{State}
-use Rattle.state.specs.State.{mostObjects, read, write, declared, holders, holds, isActive, hasUnlocked, requestedObject, objectIn, grant}
+use Rattle.state.specs.State.{mostObjects, read, write, declared, holders, holds, isActive, hasUnlocked, requestedObject, objectOfRequest, grant}
 use Rattle.state.specs.Facts.{In, RequestFacts, Facts}
 use Rattle.state.specs.Changes.{overTable, Same, grant-others, grant-same}
 use Rattle.state.specs.Keeping.{NoConflict, read-granted, write-granted}
@@ -32,7 +32,7 @@ module _ (s t : State) where
   weight-frame x o h = ap₂ (λ a b. min (weightIf a (weight s read x o)) (weightIf b (weight s write x o))) (h read) (h write)
 
   pub requested-frame : (x : ℕ) → Same s t x → requestedObject t x ≡ requestedObject s x
-  requested-frame x S = ap objectIn (S .request)
+  requested-frame x S = ap objectOfRequest (S .request)
 
   pub active-frame : (x : ℕ) → Same s t x → asNumber (isActive t x) ≡ asNumber (isActive s x)
   active-frame x S = ap asNumber (S .active)

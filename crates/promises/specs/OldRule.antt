@@ -29,13 +29,13 @@ use Rattle.events.specs.Events.{requestMeeting, request, accepted}
 use Rattle.manager.specs.Step.{step, step-accepted}
 use Rattle.basics.specs.Replies.{value}
 use Rattle.questions.specs.Answers.{rankReply}
-use Rattle.questions.specs.Questions.{running}
+use Rattle.questions.specs.Questions.{askRunning}
 use Rattle.theory.specs.Keeps.{TopHolder, named-top, top-not-waiting}
 use Rattle.promises.specs.Terms.{named, oldRequest}
 use Rattle.promises.specs.Weights.{lockWeight, lock-below, weight-small, lock-held}
 use Rattle.promises.specs.View.{as-number-true, view, waits-requested, no-request, names-lowest, seen}
 use Rattle.promises.specs.Requests.{accepted-request, refused-number}
-use Rattle.promises.specs.Accepted.{not-refused}
+use Rattle.promises.specs.AcceptedEvent.{not-refused}
 use Rattle.promises.specs.ReachedStates.{Kept}
 
 -- ---- the two weights
@@ -176,8 +176,8 @@ module _ (s : State) (K : Kept s) (one : s .processors ≡ 1) where
         (λ m r o l w. runs-above j r o low high run (l .other) (omega (arith, lock-below s m r o (l .mode) (l .held), weight-small s m r o))) (omega arith))
   ]
 
-  pub running-is : value (rankReply (running s 0)) 0 0 ≡ runningRank s 0
-  unfolding running processorRefusal
+  pub running-is : value (rankReply (askRunning s 0)) 0 0 ≡ runningRank s 0
+  unfolding askRunning processorRefusal
   running-is = simp (facts-well-formed s F, lt-ltb 0 (s .processors) (omega arith))
 
 -- ---- the event
@@ -188,7 +188,7 @@ unfolding requestMeeting
 request-same s m j o (inl p) = simp (p .0, p .1)
 request-same s m j o (inr e) = ap (requestMeeting s m j o) (sym e)
 
-pub one-request : (s : State) → Kept s → s .processors ≡ 1 → (k j o : ℕ) → isRequest k ≡ true → value (rankReply (running s 0)) 0 0 ≡ j
+pub one-request : (s : State) → Kept s → s .processors ≡ 1 → (k j o : ℕ) → isRequest k ≡ true → value (rankReply (askRunning s 0)) 0 0 ≡ j
     → paper (step s k j o .answer) .number ≢ 4 → step s k j o ≡ oldRequest s (modeOf k) j o
 one-request s K one k j o kind run ok = go (refusal s k j o) refl
   where

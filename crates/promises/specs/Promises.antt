@@ -21,7 +21,7 @@ use Rattle.events.specs.Answers.{paper}
 use Rattle.refusals.specs.Refusals.{isRequest, modeOf}
 use Rattle.basics.specs.Replies.{value}
 use Rattle.questions.specs.Answers.{rankReply}
-use Rattle.questions.specs.Questions.{running}
+use Rattle.questions.specs.Questions.{askRunning}
 use Rattle.theory.specs.Words.{Demand3}
 use Rattle.theory.specs.Keeps.{none-passes}
 use Rattle.theory.specs.Lists.{stateAt, labelAt, demand3-of}
@@ -108,7 +108,7 @@ nobody-to-wake {t} r = nobody-left t (no-waiting-request-passes r)
 -- "Equality with it is claimed for one state, reached from a fresh one by any events, and one request of the job that
 -- the only processor runs: the same grant or wait, the same named lock." A request is of kind 2 or 3, and not refused, the fourth answer.
 pub one-processor : {t : State} → Reached t → t .processors ≡ 1
-    → (e : Event) → isRequest (e .kind) ≡ true → value (rankReply (running t 0)) 0 0 ≡ e .rank → paper (outcomeOf t e .answer) .number ≢ 4
+    → (e : Event) → isRequest (e .kind) ≡ true → value (rankReply (askRunning t 0)) 0 0 ≡ e .rank → paper (outcomeOf t e .answer) .number ≢ 4
     → paper (outcomeOf t e .answer) ≡ paper (oldRequest t (modeOf (e .kind)) (e .rank) (e .object) .answer)
 one-processor {t} r one e kind run ok =
     ap (λ x. paper (x .answer)) (one-request t (kept r) one (e .kind) (e .rank) (e .object) kind run ok)

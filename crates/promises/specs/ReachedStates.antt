@@ -5,12 +5,11 @@ use Prim.Native.Nat.{ℕ}
 use native.Mathlib.Decide.{ℕ-discrete}
 use Rattle.basics.specs.Choice.{clash}
 use Rattle.state.specs.declared.State.{State}
-use Rattle.state.specs.State.{requestOf, objectIn}
+use Rattle.state.specs.State.{requestOf, objectOfRequest}
 use Rattle.state.specs.Facts.{Sized, Facts}
 use Rattle.state.specs.WellFormedFacts.{facts}
 use Rattle.table.specs.Fresh.{Fresh}
-use Rattle.theory.specs.Machine as M
-use Rattle.theory.specs.Machine.{Invariant, fresh-invariant}
+use Rattle.theory.specs.Machine.{FreshView, Invariant, fresh-invariant}
 use Rattle.theory.specs.Keeps.{step-invariant}
 use Rattle.theory.specs.Lists.{Manages}
 use Rattle.promises.specs.Terms.{next, label, Reached, fresh, after}
@@ -32,10 +31,10 @@ module _ {s : State} (z : Sized s) (f : Fresh s) where
   ]
 
   -- as the theory sees it
-  pub fresh-view : M.Fresh 256 (view s)
+  pub fresh-view : FreshView 256 (view s)
   fresh-view = record {
     no-lock = λ r o. no-weight s r o (λ m. f .objects-unlocked m r o);
-    no-request = λ j. ap objectIn (none-waiting j);
+    no-request = λ j. ap objectOfRequest (none-waiting j);
     idle = λ j. ap asNumber (f .jobs-idle j);
   }
 

@@ -12,7 +12,7 @@ use Rattle.basics.specs.Choice.{if_then_else_, clash, between, between-true}
 use Rattle.ranks.specs.Ranks.{limit, member}
 use Rattle.ranks.specs.RankLaws.{member-with-same, member-without-same}
 use Rattle.state.specs.declared.State.{State}
-use Rattle.state.specs.State.{mostObjects, read, write, isActive, hasUnlocked, requestOf, objectIn, requestedObject}
+use Rattle.state.specs.State.{mostObjects, read, write, isActive, hasUnlocked, requestOf, objectOfRequest, requestedObject}
 use Rattle.state.specs.State.{activate, await, grant, release, endRun}
 use Rattle.state.specs.Facts.{RequestFacts, Facts}
 use Rattle.state.specs.Changes.{activate-same, await-same, await-request, grant-request, grant-same, end-request, end-same, end-none}
@@ -34,7 +34,7 @@ use Rattle.promises.specs.Weights.{passes-all, fails-blocked}
 use Rattle.promises.specs.View.{asNumber, view}
 use Rattle.promises.specs.Frames.{weight-frame, requested-frame, active-frame, unlocked-frame, no-weight, no-conflict, took-grant}
 use Rattle.promises.specs.Waking.{wake-keeps}
-use Rattle.promises.specs.Accepted.{Accepted, not-refused, not-waiting, read-facts, write-facts}
+use Rattle.promises.specs.AcceptedEvent.{AcceptedEvent, not-refused, not-waiting, read-facts, write-facts}
 
 -- what is shown of an event with this label that goes from s to t
 abbrev pub Goes : State → Label → State → Type 0
@@ -51,7 +51,7 @@ module _ (s : State) (F : Facts s) (r : ℕ) (low : 1 ≤ r) (high : r ≤ s .jo
 
   -- no request is seen of a job that does not wait
   free : requestOf s r ≡ 0 → requestedObject s r ≡ 0
-  free e = ap objectIn e
+  free e = ap objectOfRequest e
 
   start-goes : (o : ℕ) → isActive s r ≡ false → Goes s (labelled 1 r o 0 0) (activate s r)
   unfolding activate
@@ -84,7 +84,7 @@ module _ (s : State) (F : Facts s) (r : ℕ) (low : 1 ≤ r) (high : r ≤ s .jo
           grant-step r o mode may (free none) (λ x. refl) (λ x. refl) (took-grant s F r low high m o A pass)
               (λ x. elim (ℕ-discrete r x) [
                 | yes q ↦ subst (λ y. requestedObject (grant s m r o) y ≡ requestedObject s y) q
-                    (ap objectIn (grant-request s r (F .sized) low fits m o ∙ sym none))
+                    (ap objectOfRequest (grant-request s r (F .sized) low fits m o ∙ sym none))
                 | no d ↦ requested-frame s (grant s m r o) x (grant-same s r (F .sized) o (A .object .0) object-fits m x d)
               ]),
         )
@@ -95,7 +95,7 @@ module _ (s : State) (F : Facts s) (r : ℕ) (low : 1 ≤ r) (high : r ≤ s .jo
       await-keeps s F r low high m o A,
       wait-step r o mode may (free none) (λ x. refl) (λ x. refl) (A .object .0) (fails-blocked s F r small e)
           (λ x p. weight-frame s (await s m r o) x p (λ n. refl))
-          (ap objectIn (await-request s r (F .sized) low fits m o) ∙ omega (arith, object-fits))
+          (ap objectOfRequest (await-request s r (F .sized) low fits m o) ∙ omega (arith, object-fits))
           (λ x. elim (ℕ-discrete r x) [ yes q ↦ inr q | no d ↦ inl (requested-frame s (await s m r o) x (await-same s r m o x d)) ]),
     )
 
@@ -151,7 +151,7 @@ module _ (s : State) (F : Facts s) (r : ℕ) (low : 1 ≤ r) (high : r ≤ s .jo
         end-step r o (wakeable (endRun s r)) (view (endRun s r)) (w .1) what five six (λ l. free (none l))
             (λ p. no-weight (endRun s r) r p (λ m. end-none s r (F .sized) m p))
             (λ x p. elim (ℕ-discrete r x) [ yes e ↦ inr e | no d ↦ inl (weight-frame s (endRun s r) x p (λ m. same x d .locks m p)) ])
-            (ap objectIn (end-request s r (F .sized) low fits))
+            (ap objectOfRequest (end-request s r (F .sized) low fits))
             (λ x. elim (ℕ-discrete r x) [ yes e ↦ inr e | no d ↦ inl (requested-frame s (endRun s r) x (same x d)) ])
             (ap asNumber (member-without-same (s .active) r))
             (λ x. elim (ℕ-discrete r x) [ yes e ↦ inr e | no d ↦ inl (active-frame s (endRun s r) x (same x d)) ])
@@ -163,7 +163,7 @@ module _ (s : State) (F : Facts s) (r : ℕ) (low : 1 ≤ r) (high : r ≤ s .jo
 abbrev pub OutcomeGoes : State → ℕ → ℕ → ℕ → Outcome → Type 0
 OutcomeGoes s k r o x = Goes s (labelOf k r o (paper (x .answer))) (x .state)
 
-accepted-goes : (s : State) → Facts s → (k r o : ℕ) → Accepted s k r o → OutcomeGoes s k r o (accepted s k r o)
+accepted-goes : (s : State) → Facts s → (k r o : ℕ) → AcceptedEvent s k r o → OutcomeGoes s k r o (accepted s k r o)
 unfolding accepted wake
 accepted-goes s F zero r o A = absurd (clash (A .kind) refl)
 accepted-goes s F (suc zero) r o A = start-goes s F r (A .rank .0) (A .rank .1) o (A .not-12)

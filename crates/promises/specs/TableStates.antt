@@ -13,11 +13,11 @@ use Rattle.table.specs.declared.TableRead.{TableRead}
 use Rattle.table_bytes.specs.Bytes.{jobsIn, entryCount}
 use Rattle.table_bytes.specs.Refusals.{tableRefusal}
 use Rattle.table.specs.Reading.{processorsOf, tableState, readTable}
-use Rattle.table_bytes.specs.Accepted.{Accepted, accepted}
+use Rattle.table_bytes.specs.AcceptedTable.{AcceptedTable, accepted-table}
 use Rattle.table.specs.Declarations.{declared-fits}
 use Rattle.table.specs.Fresh.{read-refusal, read-accepted}
 
-module _ (b : List ℕ) (a : Accepted b) where
+module _ (b : List ℕ) (a : AcceptedTable b) where
   processors-long : length (processorsOf b) ≡ limit
   unfolding processorsOf
   processors-long =
@@ -46,4 +46,4 @@ module _ (b : List ℕ) (a : Accepted b) where
 pub read-sized : (b : List ℕ) → readTable b .refusal ≡ 0 → Sized (readTable b .state)
 read-sized b e =
     let ok : tableRefusal b ≡ 0 = sym (read-refusal b) ∙ e in
-    subst (λ (r : TableRead). Sized (r .state)) (sym (read-accepted b ok)) (table-sized b (accepted b ok))
+    subst (λ (r : TableRead). Sized (r .state)) (sym (read-accepted b ok)) (table-sized b (accepted-table b ok))

@@ -17,7 +17,7 @@ use Rattle.events.specs.Events.{requestMeeting}
 use Rattle.manager.specs.Step.{step}
 use Rattle.basics.specs.Replies.{value}
 use Rattle.questions.specs.Answers.{namedReply}
-use Rattle.questions.specs.Questions.{namedLock}
+use Rattle.questions.specs.Questions.{askNamedLock}
 use Rattle.theory.specs.Words.{Label}
 use Rattle.theory.specs.Build.{labelled}
 
@@ -70,7 +70,7 @@ label s e = labelOf (e .kind) (e .rank) (e .object) (paper (outcomeOf s e .answe
 
 -- "After an event, a job in a run names the rank that the question for its named lock then gives; 0 is nobody."
 abbrev pub named : State → ℕ → ℕ
-named s j = value (namedReply (namedLock s j)) 0 0
+named s j = value (namedReply (askNamedLock s j)) 0 0
 
 -- ---- the states that are reached: "a fresh state: a well-formed one with every job idle and every object unlocked",
 -- its arrays of the lengths that the code's record always has; and each state that an event of any kind or none returns in a reached one

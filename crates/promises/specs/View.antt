@@ -16,7 +16,7 @@ use Rattle.state.specs.WellFormedFacts.{facts-well-formed, held-object, waiting
 use Rattle.weights.specs.Keys.{keyWeight, keyHolder, keyObject, lowestKey}
 use Rattle.rule.specs.Granting.{passes, namedKey}
 use Rattle.refusals.specs.Refusals.{jobRefusal}
-use Rattle.questions.specs.Questions.{namedLock}
+use Rattle.questions.specs.Questions.{askNamedLock}
 use Rattle.theory.specs.Machine.{View, Blocked, NamedLock, Seen}
 use Rattle.theory.specs.Key.{key-named}
 use Rattle.promises.specs.Terms.{named}
@@ -56,7 +56,7 @@ module _ (s : State) (F : Facts s) where
   -- ---- the named lock
 
   names-nobody : (j : ℕ) → requestOf s j ≡ 0 → named s j ≡ 0
-  unfolding namedLock namedKey
+  unfolding askNamedLock namedKey
   names-nobody j e = go (eqb (jobRefusal s j) 0) refl
     where
       go : (b : Bool) → eqb (jobRefusal s j) 0 ≡ b → named s j ≡ 0
@@ -65,7 +65,7 @@ module _ (s : State) (F : Facts s) where
 
   -- a waiting job whose request does not pass names the holder of the lowest key
   pub names-lowest : (j : ℕ) → requestOf s j ≢ 0 → passes s j ≡ false → named s j ≡ keyHolder (lowestKey s j)
-  unfolding namedLock jobRefusal namedKey
+  unfolding askNamedLock jobRefusal namedKey
   names-lowest j d e =
       let rank = waiting-rank s F j d in
       simp (facts-well-formed s F, inside-between 1 (s .jobs) j (rank .0) (rank .1), F .requests j d .active, ne-eqb (requestOf s j) 0 d, e)

@@ -11,7 +11,7 @@ use borrow.Author.Tests.{eqb-false, ne-eqb, not-true}
 use Rattle.basics.specs.Choice.{if_then_else_}
 use Rattle.basics.specs.Loops.{all-zero-first}
 use Rattle.state.specs.declared.State.{State}
-use Rattle.state.specs.State.{mostObjects, requestOf, isWaiting, requestedMode, requestedObject, objectIn, grant}
+use Rattle.state.specs.State.{mostObjects, requestOf, isWaiting, requestedMode, requestedObject, objectOfRequest, grant}
 use Rattle.state.specs.Facts.{RequestFacts, Facts}
 use Rattle.state.specs.WellFormedFacts.{waiting-rank}
 use Rattle.state.specs.Changes.{grant-request, grant-same}
@@ -85,7 +85,7 @@ module _ (s : State) where
         ];
         took = λ a. took-grant s F w (W .low) (W .high) (requestedMode s w) (requestedObject s w) request pass;
         nobody = λ q. absurd (omega (arith, W .low));
-        served = λ a. ap objectIn (grant-request s w (F .sized) (W .low) (omega (arith, W .high, F .counts .jobs)) (requestedMode s w) (requestedObject s w));
+        served = λ a. ap objectOfRequest (grant-request s w (F .sized) (W .low) (omega (arith, W .high, F .counts .jobs)) (requestedMode s w) (requestedObject s w));
         requested-same = λ x. elim (ℕ-discrete w x) [ yes q ↦ inr (omega (arith, W .low), q) | no d ↦ inl (others-wait x d) ];
         active-same = λ x. refl;
         unlocked-same = λ x. refl;

@@ -31,7 +31,7 @@ pub enum CeilingsAnswer {
 
 // A job's inherited rank. Refused by 8, 10, 13.
 pub fn inherited_rank(state: State, rank: u8) -> RankAnswer
-    ensures { λ r. ⌜ (r ≡ Q.inheritedRank state rank) × Sized state ⌝ }
+    ensures { λ r. ⌜ (r ≡ Q.askInheritedRank state rank) × Sized state ⌝ }
 {
     ask_inherited_rank(
         state.processors,
@@ -51,7 +51,7 @@ pub fn inherited_rank(state: State, rank: u8) -> RankAnswer
 
 // The lock that a job names. Refused by 8, 10, 13.
 pub fn named_lock(state: State, rank: u8) -> NamedAnswer
-    ensures { λ r. ⌜ (r ≡ Q.namedLock state rank) × Sized state ⌝ }
+    ensures { λ r. ⌜ (r ≡ Q.askNamedLock state rank) × Sized state ⌝ }
 {
     ask_named_lock(
         state.processors,
@@ -71,7 +71,7 @@ pub fn named_lock(state: State, rank: u8) -> NamedAnswer
 
 // An object's two ceilings. Refused by 8, 11.
 pub fn ceilings(state: State, object: u8) -> CeilingsAnswer
-    ensures { λ r. ⌜ (r ≡ Q.ceilings state object) × Sized state ⌝ }
+    ensures { λ r. ⌜ (r ≡ Q.askCeilings state object) × Sized state ⌝ }
 {
     ask_ceilings(
         state.processors,
@@ -91,7 +91,7 @@ pub fn ceilings(state: State, object: u8) -> CeilingsAnswer
 
 // The rank that a processor runs. Refused by 8, 19.
 pub fn running(state: State, processor: u8) -> RankAnswer
-    ensures { λ r. ⌜ (r ≡ Q.running state processor) × Sized state ⌝ }
+    ensures { λ r. ⌜ (r ≡ Q.askRunning state processor) × Sized state ⌝ }
 {
     ask_running(
         state.processors,

@@ -30,7 +30,7 @@ pub fn ask_inherited_rank<'a>(
     request: &'a JobRequests,
     rank: u8,
 ) -> RankAnswer
-    ensures { λ r. ⌜ r ≡ Q.inheritedRank (stateOf processors jobs objects (now («processor_of» .entry)) (now («may_read» .entry)) (now («may_write» .entry))
+    ensures { λ r. ⌜ r ≡ Q.askInheritedRank (stateOf processors jobs objects (now («processor_of» .entry)) (now («may_read» .entry)) (now («may_write» .entry))
         active unlocked (now (readers .entry)) (now (writers .entry)) (now (request .entry))) rank ⌝ }
 {
     let well = fits(
@@ -77,7 +77,7 @@ pub fn ask_named_lock<'a>(
     request: &'a JobRequests,
     rank: u8,
 ) -> NamedAnswer
-    ensures { λ r. ⌜ r ≡ Q.namedLock (stateOf processors jobs objects (now («processor_of» .entry)) (now («may_read» .entry)) (now («may_write» .entry))
+    ensures { λ r. ⌜ r ≡ Q.askNamedLock (stateOf processors jobs objects (now («processor_of» .entry)) (now («may_read» .entry)) (now («may_write» .entry))
         active unlocked (now (readers .entry)) (now (writers .entry)) (now (request .entry))) rank ⌝ }
 {
     let well = fits(
@@ -126,7 +126,7 @@ pub fn ask_ceilings<'a>(
     request: &'a JobRequests,
     object: u8,
 ) -> CeilingsAnswer
-    ensures { λ r. ⌜ r ≡ Q.ceilings (stateOf processors jobs objects (now («processor_of» .entry)) (now («may_read» .entry)) (now («may_write» .entry))
+    ensures { λ r. ⌜ r ≡ Q.askCeilings (stateOf processors jobs objects (now («processor_of» .entry)) (now («may_read» .entry)) (now («may_write» .entry))
         active unlocked (now (readers .entry)) (now (writers .entry)) (now (request .entry))) object ⌝ }
 {
     let well = fits(
@@ -169,7 +169,7 @@ pub fn ask_running<'a>(
     request: &'a JobRequests,
     processor: u8,
 ) -> RankAnswer
-    ensures { λ r. ⌜ r ≡ Q.running (stateOf processors jobs objects (now («processor_of» .entry)) (now («may_read» .entry)) (now («may_write» .entry))
+    ensures { λ r. ⌜ r ≡ Q.askRunning (stateOf processors jobs objects (now («processor_of» .entry)) (now («may_read» .entry)) (now («may_write» .entry))
         active unlocked (now (readers .entry)) (now (writers .entry)) (now (request .entry))) processor ⌝ }
 {
     let well = fits(

@@ -10,7 +10,7 @@ use Rattle.ranks.specs.Ranks.{member, with, without, first}
 use Rattle.state.specs.State.{activate, await, grant, release, endRun}
 use Rattle.state.specs.WellFormed.{processorsFit, declarationsFit, aboveIdle, locksFit, oneLockEach}
 use Rattle.state.specs.WellFormed.{writersAlone, waitsFit, marksFit, wellFormed}
-use Rattle.table_bytes.specs.Refusals.{headerRefusal, lengthRefusal, processorRefusal, entryRefusal, entriesRefusal, tableRefusal}
+use Rattle.table_bytes.specs.Refusals.{headerRefusal, lengthRefusal, processorByteRefusal, entryRefusal, entriesRefusal, tableRefusal}
 use Rattle.table.specs.Example.{example}
 use Rattle.table.specs.Reading.{processorsOf, withRight, declaredIn, tableState, readTable}
 use Rattle.weights.specs.Weights.{weight}
@@ -64,7 +64,7 @@ unfolding recordOf eventLines decimalWithin decimal headerLine eventLine endLine
     every least firstNonzero mapped member with without first trailingZeros ones
     activate await grant release endRun
     processorsFit declarationsFit aboveIdle locksFit oneLockEach writersAlone waitsFit marksFit wellFormed
-    headerRefusal lengthRefusal processorRefusal entryRefusal entriesRefusal tableRefusal
+    headerRefusal lengthRefusal processorByteRefusal entryRefusal entriesRefusal tableRefusal
     processorsOf withRight declaredIn tableState readTable
     weight othersKey objectKey lowestKeyBy namedKey reason wakeable
     eventRefusal refusal requestMeeting woken wake accepted step

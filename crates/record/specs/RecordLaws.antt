@@ -11,7 +11,7 @@ use Rattle.table.specs.declared.TableRead.{TableRead}
 use Rattle.table_bytes.specs.Bytes.{tableLength}
 use Rattle.table_bytes.specs.Refusals.{tableRefusal}
 use Rattle.table.specs.Reading.{readTable}
-use Rattle.table_bytes.specs.Accepted.{accepted}
+use Rattle.table_bytes.specs.AcceptedTable.{accepted-table}
 use Rattle.table.specs.Fresh.{read-refusal, read-accepted}
 use Rattle.manager.specs.Step.{step}
 use Rattle.lines.specs.Lines.{eventLine}
@@ -77,4 +77,4 @@ pub used-within : (b : List ℕ) → readTable b .refusal ≡ 0 → readTable b 
 used-within b e =
     let none : tableRefusal b ≡ 0 = sym (read-refusal b) ∙ e in
     let used : readTable b .used ≡ tableLength b = ap (λ (t : TableRead). t .used) (read-accepted b none) in
-    omega (arith, accepted b none .table-within)
+    omega (arith, accepted-table b none .table-within)

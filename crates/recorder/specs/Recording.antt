@@ -71,11 +71,11 @@ mostBytes = 2 ^ 64 - 2 ^ 16
 
 -- how it may end behind so many bytes: the record is whole at the input's end or behind a refused table; which of read and write failed
 -- only a run shows
-abbrev pub Ends : Ended → ℕ → Bench → Type 0
-Ends Ended.Whole received r = (received < mostBytes) ⊎ (2 ≤ r .refusal)
-Ends Ended.NotRead received r = received < mostBytes
-Ends Ended.NotWritten received r = Unit {0}
-Ends Ended.TooLong received r = mostBytes ≤ received
+abbrev pub MayEnd : Ended → ℕ → Bench → Type 0
+MayEnd Ended.Whole received r = (received < mostBytes) ⊎ (2 ≤ r .refusal)
+MayEnd Ended.NotRead received r = received < mostBytes
+MayEnd Ended.NotWritten received r = Unit {0}
+MayEnd Ended.TooLong received r = mostBytes ≤ received
 
 -- what is said of it: 0 nothing, 1 that the input cannot be read, which is so too of one that is too long, 2 that the record cannot be written
 abbrev pub failureOf : Ended → ℕ
@@ -85,11 +85,11 @@ failureOf Ended.TooLong = 1
 failureOf Ended.NotWritten = 2
 
 -- how it may end where no part came
-abbrev pub EndsWithoutPart : Ended → Bench → Type 0
-EndsWithoutPart e r = (received : ℕ) → received < mostBytes → Ends e received r
+abbrev pub MayEndWithoutPart : Ended → Bench → Type 0
+MayEndWithoutPart e r = (received : ℕ) → received < mostBytes → MayEnd e received r
 
 -- what is handed back, the input buffer, whose front has the bytes held, and the record buffer
 pub record Records (r : Recorded) (input lines lines′ : List ℕ) : Type 0 where
   pub after-parts : AfterParts (r .bench) (take (r .held) input) (r .received) lines lines′
   pub inside : r .held ≤ length input
-  pub ends : Ends (r .ended) (r .received) (r .bench)
+  pub ends : MayEnd (r .ended) (r .received) (r .bench)

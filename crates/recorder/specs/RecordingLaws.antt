@@ -17,7 +17,7 @@ use Rattle.stream.specs.AnyParts.{settled-short, feed-count, feed-settled}
 use Rattle.recorder.specs.declared.Fed.{Fed}
 use Rattle.recorder.specs.declared.Ended.{Ended}
 use Rattle.recorder.specs.declared.Recorded.{Recorded}
-use Rattle.recorder.specs.Recording.{partOf, Fits, Feeds, overlaid, AfterParts, Ends, Records}
+use Rattle.recorder.specs.Recording.{partOf, Fits, Feeds, overlaid, AfterParts, MayEnd, Records}
 
 pub part-fits : (got : ℤ) (count room : ℕ) → count ≤ room → Fits (partOf got count) room
 part-fits (negsuc k) count room h = tt
@@ -114,6 +114,6 @@ module _ (r : Bench) (filled : ℕ) (input after a b : List ℕ) (f : Fed) (h : 
 -- what is handed back, by its parts
 pub records-is : {r : Recorded} {e : Ended} {received held : ℕ} {bench : Bench} {input lines lines′ : List ℕ}
     → r ≡ record { ended = e; received = received; bench = bench; held = held }
-    → AfterParts bench (take held input) received lines lines′ → held ≤ length input → Ends e received bench → Records r input lines lines′
+    → AfterParts bench (take held input) received lines lines′ → held ≤ length input → MayEnd e received bench → Records r input lines lines′
 records-is {r} {e} {received} {held} {bench} {input} {lines} {lines′} is d h k =
     subst (λ (x : Recorded). Records x input lines lines′) (sym is) (record { after-parts = d; inside = h; ends = k })

@@ -5,7 +5,7 @@ ghost use lib.ListN.{length, take, drop};
 ghost use Rattle.table_bytes.specs.Decided.{longestTable};
 ghost use Rattle.decimals.specs.Laid.{Laid};
 ghost use Rattle.stream.specs.Parts.{feed, Advances};
-ghost use Rattle.recorder.specs.Recording.{partOf, Came, Feeds, AfterSomeParts, failureOf, EndsWithoutPart, Records};
+ghost use Rattle.recorder.specs.Recording.{partOf, Came, Feeds, AfterSomeParts, failureOf, MayEndWithoutPart, Records};
 use stream::Advanced;
 use stream::Bench;
 
@@ -151,7 +151,7 @@ fn write_last(to: i32, bench: Bench, input: &[u8], held: usize) -> bool
 // How the record ends where no part came: with its last line, or with none where a read failed.
 fn end_record(to: i32, part: Part, bench: Bench, input: &[u8], held: usize) -> Ended
     requires { ⌜ AfterSomeParts bench (take held (now input)) × (held ≤ length (now input)) ⌝ }
-    ensures { λ r. ⌜ EndsWithoutPart r bench ⌝ }
+    ensures { λ r. ⌜ MayEndWithoutPart r bench ⌝ }
 {
     if let Part::Failed = part {
         return Ended::NotRead;

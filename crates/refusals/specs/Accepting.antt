@@ -12,14 +12,14 @@ use Rattle.basics.specs.Loops.{every-at}
 use Rattle.basics.specs.Arrays.{at}
 use Rattle.ranks.specs.Ranks.{limit}
 use Rattle.state.specs.declared.State.{State}
-use Rattle.state.specs.State.{mostObjects, isRank, isObject, isActive, hasUnlocked, mayLock, holdsAlready, requestOf, objectIn, requestedMode, requestedObject}
+use Rattle.state.specs.State.{mostObjects, isRank, isObject, isActive, hasUnlocked, mayLock, holdsAlready, requestOf, objectOfRequest, requestedMode, requestedObject}
 use Rattle.state.specs.WellFormed.{mayAwait, waitFits, waitsFit, wellFormed}
 use Rattle.state.specs.Clauses.{clauses, counts-within}
 use Rattle.refusals.specs.Refusals.{objectAllowed, eventRefusal, refusal, jobRefusal, objectRefusal, processorRefusal}
 
 -- each waiting job asks for an object that the arrays have
 abbrev pub RequestsFit : List ℕ → Type 0
-RequestsFit requests = (r : ℕ) → 1 ≤ r → r ≤ limit → at requests r ≢ 0 → (1 ≤ objectIn (at requests r)) × (objectIn (at requests r) ≤ mostObjects)
+RequestsFit requests = (r : ℕ) → 1 ≤ r → r ≤ limit → at requests r ≢ 0 → (1 ≤ objectOfRequest (at requests r)) × (objectOfRequest (at requests r) ≤ mostObjects)
 
 pub record InRange (jobs objects : ℕ) (requests : List ℕ) : Type 0 where
   pub jobs-fit : jobs ≤ limit

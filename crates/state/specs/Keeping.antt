@@ -16,7 +16,7 @@ use Rattle.ranks.specs.Ranks.{limit, member, with, without}
 use Rattle.ranks.specs.RankLaws.{member-with-same, member-with-other, member-without-same, member-without-other, with-lt, without-lt}
 use Rattle.state.specs.declared.State.{State}
 use Rattle.state.specs.State.{mostObjects, read, write, declared, holders, holds, isActive}
-use Rattle.state.specs.State.{requestOf, requestFor, modeIn, objectIn, requestedMode, requestedObject, activate, await, grant, release, endRun}
+use Rattle.state.specs.State.{requestOf, requestFor, modeOfRequest, objectOfRequest, requestedMode, requestedObject, activate, await, grant, release, endRun}
 use Rattle.state.specs.Facts.{Sized, In, Alone, LockFacts, RequestFacts, Facts}
 use Rattle.state.specs.Modes.{either-mode}
 use Rattle.state.specs.Changes.{overTable, Same, readersAfter, writersAfter, readers-after-lt, writers-after-lt, activate-same}
@@ -61,7 +61,7 @@ module _ (s t : State) where
   module _ (F : Facts s) where
     same-waits : (x : ℕ) → Same s t x → requestOf t x ≢ 0 → RequestFacts (overTable s t) (requestedMode t x) x (requestedObject t x)
     same-waits x S d =
-        subst (λ q. RequestFacts (overTable s t) (modeIn q) x (objectIn q)) (sym (S .request))
+        subst (λ q. RequestFacts (overTable s t) (modeOfRequest q) x (objectOfRequest q)) (sym (S .request))
         (same-request (requestedMode s x) x (requestedObject s x) S (F .requests x (λ z. d (S .request ∙ z))))
 
     -- a change of job r alone
@@ -124,12 +124,12 @@ module _ (s : State) (F : Facts s) (r : ℕ) (low : 1 ≤ r) (high : r ≤ s .jo
       (F .active-jobs) (F .marks-jobs) (F .marks) (λ d. waits) (await-same s r m o)
     where
       -- the request holds the mode and the object
-      waits : RequestFacts (await s m r o) (modeIn (requestOf (await s m r o) r)) r (objectIn (requestOf (await s m r o) r))
+      waits : RequestFacts (await s m r o) (modeOfRequest (requestOf (await s m r o) r)) r (objectOfRequest (requestOf (await s m r o) r))
       waits =
-          let mode : m ≡ modeIn (requestFor m o) = omega (arith, A .object, F .counts .objects) in
-          let object : o ≡ objectIn (requestFor m o) = omega (arith, A .object, F .counts .objects) in
-          subst (λ q. RequestFacts (await s m r o) (modeIn q) r (objectIn q)) (sym (await-request s r Z low rank-fits m o))
-          (subst (λ p. RequestFacts (await s m r o) (modeIn (requestFor m o)) r p) object
+          let mode : m ≡ modeOfRequest (requestFor m o) = omega (arith, A .object, F .counts .objects) in
+          let object : o ≡ objectOfRequest (requestFor m o) = omega (arith, A .object, F .counts .objects) in
+          subst (λ q. RequestFacts (await s m r o) (modeOfRequest q) r (objectOfRequest q)) (sym (await-request s r Z low rank-fits m o))
+          (subst (λ p. RequestFacts (await s m r o) (modeOfRequest (requestFor m o)) r p) object
           (subst (λ n. RequestFacts (await s m r o) n r o) mode
           (record {
             mode = A .mode;

@@ -86,20 +86,20 @@ requestOf s r = at (s .request) r
 abbrev pub requestFor : ℕ → ℕ → ℕ
 requestFor m o = m * 256 + o
 
-abbrev pub modeIn : ℕ → ℕ
-modeIn request = request / 256
+abbrev pub modeOfRequest : ℕ → ℕ
+modeOfRequest request = request / 256
 
-abbrev pub objectIn : ℕ → ℕ
-objectIn request = request % 256
+abbrev pub objectOfRequest : ℕ → ℕ
+objectOfRequest request = request % 256
 
 abbrev pub isWaiting : State → ℕ → Bool
 isWaiting s r = not (eqb (requestOf s r) 0)
 
 abbrev pub requestedMode : State → ℕ → ℕ
-requestedMode s r = modeIn (requestOf s r)
+requestedMode s r = modeOfRequest (requestOf s r)
 
 abbrev pub requestedObject : State → ℕ → ℕ
-requestedObject s r = objectIn (requestOf s r)
+requestedObject s r = objectOfRequest (requestOf s r)
 
 -- ---- a state from its parts
 

@@ -5,7 +5,7 @@ ghost use Prim.Native.Nat.{_≤_};
 ghost use Rattle.basics.specs.Choice.{between};
 ghost use Rattle.state.specs.State.{ofMode, stateOf};
 ghost use Rattle.state.specs.WellFormed.{countsWithin, processorsFit, mayAwait, waitsFit};
-ghost use Rattle.state.specs.State.{modeIn, objectIn};
+ghost use Rattle.state.specs.State.{modeOfRequest, objectOfRequest};
 ghost use Rattle.state.specs.Survey.{mayAsk};
 use crate::JobProcessors;
 use crate::JobRequests;
@@ -78,7 +78,7 @@ fn may_await<'a>(
 ) -> bool
     requires { ⌜ (objects ≤ 128) × (1 ≤ rank) × (rank ≤ 64) ⌝ }
     ensures { λ r. ⌜ r ≡ mayAwait (stateOf 0 0 objects [] (now («may_read» .entry)) (now («may_write» .entry)) active unlocked (now (readers .entry)) (now (writers .entry)) [])
-        (modeIn request) rank (objectIn request) ⌝ }
+        (modeOfRequest request) rank (objectOfRequest request) ⌝ }
 {
     let mode = (request / 256) as u8;
     let object = (request % 256) as u8;

@@ -11,9 +11,9 @@ use lib.Seq.{take-append-le, drop-append-le}
 use Rattle.ranks.specs.Ranks.{limit}
 use Rattle.state.specs.declared.State.{State}
 use Rattle.state.specs.State.{read, write, zeros, freshState}
-use Rattle.table_bytes.specs.Bytes.{processorsIn, jobsIn, objectsIn, rankIn, objectIn, modeIn, entryCount, entriesStart, tableLength}
+use Rattle.table_bytes.specs.Bytes.{processorsIn, jobsIn, objectsIn, entryRank, entryObject, entryMode, entryCount, entriesStart, tableLength}
 use Rattle.table_bytes.specs.Refusals.{tableRefusal}
-use Rattle.table_bytes.specs.Accepted.{accepted}
+use Rattle.table_bytes.specs.AcceptedTable.{accepted-table}
 use Rattle.table_bytes.specs.Decided.{same, same-jobs, same-count, same-length, same-rank, same-object, same-mode, refusal-decided}
 use Rattle.table.specs.Reading.{processorsOf, withRight, declaredIn, tableState, refusedRead, readTable}
 use Rattle.table.specs.Fresh.{read-refusal, read-accepted, read-refused}
@@ -24,8 +24,8 @@ module _ (b more : List ℕ) where
     unfolding declaredIn
     same-declared m zero l = refl
     same-declared m (suc k) l =
-        ap₂ (λ (x y : ℕ). withRight m x y (modeIn (b ++ more) k) (declaredIn m (b ++ more) k)) (same-rank b more h s t k l) (same-object b more h s t k l)
-        ∙ ap₂ (λ (x : ℕ) (y : List ℕ). withRight m (rankIn b k) (objectIn b k) x y) (same-mode b more h s t k l) (same-declared m k (omega arith))
+        ap₂ (λ (x y : ℕ). withRight m x y (entryMode (b ++ more) k) (declaredIn m (b ++ more) k)) (same-rank b more h s t k l) (same-object b more h s t k l)
+        ∙ ap₂ (λ (x : ℕ) (y : List ℕ). withRight m (entryRank b k) (entryObject b k) x y) (same-mode b more h s t k l) (same-declared m k (omega arith))
 
     same-processors-of : processorsOf (b ++ more) ≡ processorsOf b
     unfolding processorsOf
@@ -51,7 +51,7 @@ module _ (b more : List ℕ) where
 
       go : Dec (tableRefusal b ≡ 0) → readTable (b ++ more) ≡ readTable b
       go (yes e) =
-          let a = accepted b e in
+          let a = accepted-table b e in
           read-accepted (b ++ more) (kept ∙ e)
           ∙ ap₂ (λ (n : ℕ) (s : State). record { refusal = 0; used = n; state = s }) (same-length b more (a .long) (a .start-within))
           (same-state (a .long) (a .start-within) (a .table-within))

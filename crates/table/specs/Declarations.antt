@@ -15,9 +15,9 @@ use Rattle.basics.specs.Arrays.{at, put, at-put-same, at-put-other, length-put,
 use Rattle.ranks.specs.Ranks.{limit, with}
 use Rattle.ranks.specs.RankLaws.{with-lt}
 use Rattle.state.specs.State.{mostObjects, zeros}
-use Rattle.table_bytes.specs.Bytes.{jobsIn, objectsIn, processorIn, entryCount, rankIn, objectIn, modeIn}
+use Rattle.table_bytes.specs.Bytes.{jobsIn, objectsIn, processorIn, entryCount, entryRank, entryObject, entryMode}
 use Rattle.table.specs.Reading.{processorsOf, givesRight, withRight, declaredIn}
-use Rattle.table_bytes.specs.Accepted.{Accepted, EntryFits}
+use Rattle.table_bytes.specs.AcceptedTable.{AcceptedTable, EntryFits}
 
 -- sets by object in a table of so many jobs and objects
 pub record SetsFit (jobs objects : ℕ) (sets : List ℕ) : Type 0 where
@@ -53,18 +53,18 @@ put-fits jobs objects sets rank object fit r low high most = record {
     small : new < 2 ^ jobs
     small = with-lt jobs (at sets object) rank (fit .of-jobs object) r
 
-module _ (b : List ℕ) (a : Accepted b) where
+module _ (b : List ℕ) (a : AcceptedTable b) where
   pub declared-fits : (m n : ℕ) → n ≤ entryCount b → SetsFit (jobsIn b) (objectsIn b) (declaredIn m b n)
   unfolding declaredIn withRight
   declared-fits m zero l = zeros-fit (jobsIn b) (objectsIn b)
-  declared-fits m (suc k) l = go (declaredIn m b k) (declared-fits m k (omega arith)) (givesRight (modeIn b k) m)
+  declared-fits m (suc k) l = go (declaredIn m b k) (declared-fits m k (omega arith)) (givesRight (entryMode b k) m)
     where
       e : EntryFits b k
       e = a .entry k l
 
       go : (sets : List ℕ) → SetsFit (jobsIn b) (objectsIn b) sets → (t : Bool)
-          → SetsFit (jobsIn b) (objectsIn b) (if t then put sets (objectIn b k) (with (at sets (objectIn b k)) (rankIn b k)) else sets)
-      go sets fit true = put-fits (jobsIn b) (objectsIn b) sets (rankIn b k) (objectIn b k) fit (e .rank-high) (e .object-low) (e .object-high) (a .objects-high)
+          → SetsFit (jobsIn b) (objectsIn b) (if t then put sets (entryObject b k) (with (at sets (entryObject b k)) (entryRank b k)) else sets)
+      go sets fit true = put-fits (jobsIn b) (objectsIn b) sets (entryRank b k) (entryObject b k) fit (e .rank-high) (e .object-low) (e .object-high) (a .objects-high)
       go sets fit false = fit
 
   pub processor-read : (k : ℕ) → k < jobsIn b → at (processorsOf b) (suc k) ≡ processorIn b k

@@ -6,7 +6,7 @@ use mathlib.Core.List.{List, [], _∷_, _++_}
 use lib.ListN.{take}
 use Rattle.basics.specs.Loops.{firstNonzero, joined}
 use Rattle.ranks.specs.Ranks.{with}
-use Rattle.table_bytes.specs.Refusals.{headerRefusal, lengthRefusal, processorRefusal, entryRefusal, entriesRefusal, tableRefusal}
+use Rattle.table_bytes.specs.Refusals.{headerRefusal, lengthRefusal, processorByteRefusal, entryRefusal, entriesRefusal, tableRefusal}
 use Rattle.table.specs.Reading.{withRight, declaredIn, tableState, readTable}
 use Rattle.table.specs.JobEntries.{entriesOf, jobEntriesRefusal, jobEntries}
 
@@ -16,12 +16,12 @@ example =
     74 ∷ 79 ∷ 66 ∷ 0 ∷ 1 ∷ 2 ∷ 4 ∷ 3 ∷ 0 ∷ 1 ∷ 0 ∷ 1 ∷ 0 ∷ 5 ∷ 1 ∷ 1 ∷ 2 ∷ 2 ∷ 2 ∷ 1 ∷ 2 ∷ 3 ∷ 1 ∷ 3 ∷ 1 ∷ 1 ∷ 4 ∷ 1 ∷ 1 ∷ []
 
 pub example-accepted : tableRefusal example ≡ 0
-unfolding tableRefusal headerRefusal lengthRefusal processorRefusal entryRefusal entriesRefusal firstNonzero
+unfolding tableRefusal headerRefusal lengthRefusal processorByteRefusal entryRefusal entriesRefusal firstNonzero
 example-accepted = refl
 
 -- three bytes behind the table are not read
 pub example-used : readTable (example ++ (1 ∷ 2 ∷ 3 ∷ [])) .used ≡ 29
-unfolding readTable tableRefusal headerRefusal lengthRefusal processorRefusal entryRefusal entriesRefusal firstNonzero
+unfolding readTable tableRefusal headerRefusal lengthRefusal processorByteRefusal entryRefusal entriesRefusal firstNonzero
 example-used = refl
 
 pub example-read : take 3 (tableState example .«may_read») ≡ 12 ∷ 2 ∷ 2 ∷ []
@@ -29,7 +29,7 @@ unfolding tableState declaredIn withRight with
 example-read = refl
 
 pub example-job : jobEntries example 2 ≡ 2 ∷ 2 ∷ 1 ∷ 2 ∷ 3 ∷ 1 ∷ []
-unfolding jobEntries jobEntriesRefusal entriesOf joined tableRefusal headerRefusal lengthRefusal processorRefusal entryRefusal entriesRefusal firstNonzero
+unfolding jobEntries jobEntriesRefusal entriesOf joined tableRefusal headerRefusal lengthRefusal processorByteRefusal entryRefusal entriesRefusal firstNonzero
 example-job = refl
 
 -- "7 bytes": they end early

@@ -25,7 +25,7 @@ use Rattle.table.specs.declared.TableRead.{TableRead}
 use Rattle.table_bytes.specs.Bytes.{processorsIn, jobsIn, objectsIn, entryCount, tableLength}
 use Rattle.table_bytes.specs.Refusals.{tableRefusal}
 use Rattle.table.specs.Reading.{declaredIn, tableState, refusedRead, readTable}
-use Rattle.table_bytes.specs.Accepted.{Accepted, accepted}
+use Rattle.table_bytes.specs.AcceptedTable.{AcceptedTable, accepted-table}
 use Rattle.table.specs.Declarations.{SetsFit, declared-fits, processor-read}
 
 pub record Fresh (s : State) : Type 0 where
@@ -35,7 +35,7 @@ pub record Fresh (s : State) : Type 0 where
 
 -- ---- the state of accepted bytes
 
-module _ (b : List ℕ) (a : Accepted b) where
+module _ (b : List ℕ) (a : AcceptedTable b) where
   reads : SetsFit (jobsIn b) (objectsIn b) (declaredIn read b (entryCount b))
   reads = declared-fits b a read (entryCount b) (omega arith)
 
@@ -140,7 +140,7 @@ read-refused b d = simp (ne-eqb (tableRefusal b) 0 d)
 pub read-fresh : (b : List ℕ) → readTable b .refusal ≡ 0 → Fresh (readTable b .state)
 read-fresh b e =
     let ok : tableRefusal b ≡ 0 = sym (read-refusal b) ∙ e in
-    subst (λ (r : TableRead). Fresh (r .state)) (sym (read-accepted b ok)) (table-fresh b (accepted b ok))
+    subst (λ (r : TableRead). Fresh (r .state)) (sym (read-accepted b ok)) (table-fresh b (accepted-table b ok))
 
 pub read-well-formed : (b : List ℕ) → readTable b .refusal ≡ 0 → wellFormed (readTable b .state) ≡ true
 read-well-formed b e = read-fresh b e .well-formed

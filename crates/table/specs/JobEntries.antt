@@ -7,13 +7,13 @@ use lib.ListN.{take, drop}
 use lib.Dec.{eqb}
 use Rattle.basics.specs.Choice.{if_then_else_, _if_else_, _orElse_, between}
 use Rattle.basics.specs.Loops.{joined}
-use Rattle.table_bytes.specs.Bytes.{jobsIn, rankIn, entryStart, entryCount}
+use Rattle.table_bytes.specs.Bytes.{jobsIn, entryRank, entryStart, entryCount}
 use Rattle.table_bytes.specs.Refusals.{tableRefusal}
 
 -- the three bytes of entry i, counted from 1, if it is the rank's
 abbrev pub entryOf : List ℕ → ℕ → ℕ → List ℕ
 entryOf b rank zero = []
-entryOf b rank (suc k) = if eqb (rankIn b k) rank then take 3 (drop (entryStart b k) b) else []
+entryOf b rank (suc k) = if eqb (entryRank b k) rank then take 3 (drop (entryStart b k) b) else []
 
 -- the bytes of the rank's entries
 unfoldable pub entriesOf : List ℕ → ℕ → List ℕ

@@ -14,17 +14,17 @@ use lib.ListN.{take, drop}
 use lib.Seq.{take-add, drop-drop}
 use Rattle.basics.specs.Choice.{_if_else_, between, between-true, if-zero, or-else-zero}
 use Rattle.basics.specs.Loops.{joined}
-use Rattle.table_bytes.specs.Bytes.{jobsIn, rankIn, entryCount, entryStart}
+use Rattle.table_bytes.specs.Bytes.{jobsIn, entryRank, entryCount, entryStart}
 use Rattle.table_bytes.specs.Refusals.{tableRefusal}
 use Rattle.table.specs.JobEntries.{entryOf, entriesOf, jobEntriesRefusal}
-use Rattle.table_bytes.specs.Accepted.{Accepted}
+use Rattle.table_bytes.specs.AcceptedTable.{AcceptedTable}
 
 -- r is the first entry from `start` on of the rank or a greater one, counted from 0; the entry count if there is none
 pub record FirstFrom (b : List ℕ) (rank start r : ℕ) : Type 0 where
   pub low : start ≤ r
   pub high : r ≤ entryCount b
-  pub before : (k : ℕ) → k < r → start ≤ k → rankIn b k < rank
-  pub there : r < entryCount b → rank ≤ rankIn b r
+  pub before : (k : ℕ) → k < r → start ≤ k → entryRank b k < rank
+  pub there : r < entryCount b → rank ≤ entryRank b r
 
 -- the bytes of the entries from `first` up to `next`
 abbrev pub part : List ℕ → ℕ → ℕ → List ℕ
@@ -40,28 +40,28 @@ part-more b first k h =
     ∙ take-add (3 * (k - first)) 3 rest
     ∙ ap (λ (l : List ℕ). part b first k ++ take 3 l) (drop-drop (3 * (k - first)) (entryStart b first) b ∙ ap (λ (n : ℕ). drop n b) place))
 
-module _ (b : List ℕ) (a : Accepted b) where
-  pub ranks-ascend : (j k : ℕ) → j ≤ k → k < entryCount b → rankIn b j ≤ rankIn b k
-  ranks-ascend j zero h l = let same : j ≡ 0 = omega arith in omega (arith, ap (rankIn b) same)
+module _ (b : List ℕ) (a : AcceptedTable b) where
+  pub ranks-ascend : (j k : ℕ) → j ≤ k → k < entryCount b → entryRank b j ≤ entryRank b k
+  ranks-ascend j zero h l = let same : j ≡ 0 = omega arith in omega (arith, ap (entryRank b) same)
   ranks-ascend j (suc k) h l = go (ranks-ascend j k) (eq-or-lt-of-le h)
     where
-      go : (j ≤ k → k < entryCount b → rankIn b j ≤ rankIn b k) → (j ≡ suc k) ⊎ (j < suc k) → rankIn b j ≤ rankIn b (suc k)
-      go rest (inl e) = omega (arith, ap (rankIn b) e)
+      go : (j ≤ k → k < entryCount b → entryRank b j ≤ entryRank b k) → (j ≡ suc k) ⊎ (j < suc k) → entryRank b j ≤ entryRank b (suc k)
+      go rest (inl e) = omega (arith, ap (entryRank b) e)
       go rest (inr s) =
           let e = a .entry (suc k) l in
           omega (arith, rest (omega arith) (omega arith))
 
-module _ (b : List ℕ) (a : Accepted b) (rank first next : ℕ) (from : FirstFrom b rank 0 first) (to : FirstFrom b (rank + 1) first next) where
+module _ (b : List ℕ) (a : AcceptedTable b) (rank first next : ℕ) (from : FirstFrom b rank 0 first) (to : FirstFrom b (rank + 1) first next) where
   -- the entries before, of the rank, and behind
-  before : (k : ℕ) → k < first → rankIn b k ≡ rank → ⊥
+  before : (k : ℕ) → k < first → entryRank b k ≡ rank → ⊥
   before k l e = omega (arith, from .before k l (omega arith))
 
-  own : (k : ℕ) → first ≤ k → k < next → rankIn b k ≡ rank
+  own : (k : ℕ) → first ≤ k → k < next → entryRank b k ≡ rank
   own k l h =
       let some : first < entryCount b = omega arith in
       omega (arith, to .before k h l, from .there some, ranks-ascend b a first k l (omega arith))
 
-  behind : (k : ℕ) → next ≤ k → k < entryCount b → rankIn b k ≡ rank → ⊥
+  behind : (k : ℕ) → next ≤ k → k < entryCount b → entryRank b k ≡ rank → ⊥
   behind k l h e =
       let some : next < entryCount b = omega arith in
       omega (arith, to .there some, ranks-ascend b a next k l h)
@@ -70,10 +70,10 @@ module _ (b : List ℕ) (a : Accepted b) (rank first next : ℕ) (from : FirstFr
   abbrev Joined : ℕ → Type 0
   Joined k = joined k (entryOf b rank) ≡ part b first (min k next)
 
-  skipped : (k : ℕ) → (rankIn b k ≡ rank → ⊥) → min (suc k) next - first ≡ min k next - first → Joined k → Joined (suc k)
+  skipped : (k : ℕ) → (entryRank b k ≡ rank → ⊥) → min (suc k) next - first ≡ min k next - first → Joined k → Joined (suc k)
   unfolding joined
   skipped k d e rest =
-      simp (ne-eqb (rankIn b k) rank d)
+      simp (ne-eqb (entryRank b k) rank d)
       (append-nil (joined k (entryOf b rank)) ∙ rest ∙ sym (ap (λ (n : ℕ). take (3 * n) (drop (entryStart b first) b)) e))
 
   taken : (k : ℕ) → first ≤ k → k < next → Joined k → Joined (suc k)
@@ -81,7 +81,7 @@ module _ (b : List ℕ) (a : Accepted b) (rank first next : ℕ) (from : FirstFr
   taken k l h rest =
       let here : min k next ≡ k = omega arith in
       let there : suc k ≡ min (suc k) next = omega arith in
-      simp (eq-eqb (rankIn b k) rank (own k l h))
+      simp (eq-eqb (entryRank b k) rank (own k l h))
       (ap (λ (t : List ℕ). t ++ take 3 (drop (entryStart b k) b)) (rest ∙ ap (part b first) here) ∙ part-more b first k l ∙ ap (part b first) there)
 
   joined-part : (k : ℕ) → k ≤ entryCount b → Joined k

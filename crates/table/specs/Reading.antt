@@ -11,7 +11,7 @@ use Rattle.ranks.specs.Ranks.{limit, with}
 use Rattle.state.specs.declared.State.{State}
 use Rattle.state.specs.State.{read, write, mostObjects, zeros, freshState, zeroState}
 use Rattle.table.specs.declared.TableRead.{TableRead}
-use Rattle.table_bytes.specs.Bytes.{processorsIn, jobsIn, objectsIn, entryCount, tableLength, rankIn, objectIn, modeIn}
+use Rattle.table_bytes.specs.Bytes.{processorsIn, jobsIn, objectsIn, entryCount, tableLength, entryRank, entryObject, entryMode}
 use Rattle.table_bytes.specs.Refusals.{tableRefusal}
 
 -- the processor of each rank, 0 above the job count
@@ -29,7 +29,7 @@ withRight m rank object mode sets = if givesRight mode m then put sets object (w
 -- the ranks that the first n entries declare to lock in mode m, by object
 unfoldable pub declaredIn : ℕ → List ℕ → ℕ → List ℕ
 declaredIn m b zero = zeros mostObjects
-declaredIn m b (suc k) = withRight m (rankIn b k) (objectIn b k) (modeIn b k) (declaredIn m b k)
+declaredIn m b (suc k) = withRight m (entryRank b k) (entryObject b k) (entryMode b k) (declaredIn m b k)
 
 -- the fresh state of accepted table bytes
 unfoldable pub tableState : List ℕ → State

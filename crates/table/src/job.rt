@@ -2,7 +2,7 @@
 ghost use mathlib.Core.Path.{_≡_};
 ghost use Prim.Native.Nat.{_≤_, _<_};
 ghost use lib.ListN.{length};
-ghost use Rattle.table_bytes.specs.Bytes.{entryCount, entryStart, rankIn};
+ghost use Rattle.table_bytes.specs.Bytes.{entryCount, entryStart, entryRank};
 ghost use Rattle.table_bytes.specs.Refusals.{tableRefusal};
 ghost use Rattle.table.specs.JobEntries.{jobEntriesRefusal, jobEntries};
 ghost use Rattle.table.specs.JobPart.{FirstFrom};
@@ -28,7 +28,7 @@ fn job_entries_refusal(bytes: &[u8], rank: u8) -> u8
 // The rank of the entry, counted from 0.
 fn rank_at(bytes: &[u8], entry: usize) -> u8
     requires { ⌜ (entry < 65536) × (entryStart (now bytes) entry < length (now bytes)) ⌝ }
-    ensures { λ r. ⌜ r ≡ rankIn (now (bytes .entry)) entry ⌝ }
+    ensures { λ r. ⌜ r ≡ entryRank (now (bytes .entry)) entry ⌝ }
 {
     bytes[entry_start(bytes, entry)]
 }

@@ -43,14 +43,14 @@ tableLength b = entriesStart b + 3 * entryCount b
 abbrev pub entryStart : List ℕ → ℕ → ℕ
 entryStart b k = entriesStart b + 3 * k
 
-abbrev pub rankIn : List ℕ → ℕ → ℕ
-rankIn b k = byte b (entryStart b k)
+abbrev pub entryRank : List ℕ → ℕ → ℕ
+entryRank b k = byte b (entryStart b k)
 
-abbrev pub objectIn : List ℕ → ℕ → ℕ
-objectIn b k = byte b (entryStart b k + 1)
+abbrev pub entryObject : List ℕ → ℕ → ℕ
+entryObject b k = byte b (entryStart b k + 1)
 
-abbrev pub modeIn : List ℕ → ℕ → ℕ
-modeIn b k = byte b (entryStart b k + 2)
+abbrev pub entryMode : List ℕ → ℕ → ℕ
+entryMode b k = byte b (entryStart b k + 2)
 
 -- entries ascend "by rank, then object": by this number
 abbrev pub order : ℕ → ℕ → ℕ
@@ -59,4 +59,4 @@ order rank object = rank * 256 + object
 -- the order of the entry before entry k; 0, which is before every entry, for the first
 abbrev pub orderBefore : List ℕ → ℕ → ℕ
 orderBefore b zero = 0
-orderBefore b (suc k) = order (rankIn b k) (objectIn b k)
+orderBefore b (suc k) = order (entryRank b k) (entryObject b k)

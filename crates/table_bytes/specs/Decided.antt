@@ -15,10 +15,10 @@ use Rattle.basics.specs.Loops.{firstNonzero, first-nonzero-same, first-nonzero-
 use Rattle.ranks.specs.Ranks.{limit}
 use Rattle.state.specs.WellFormed.{countsWithin}
 use Rattle.table_bytes.specs.Bytes.{byte, word, versionIn, processorsIn, jobsIn, objectsIn, entryCount, entriesStart, tableLength}
-use Rattle.table_bytes.specs.Bytes.{entryStart, rankIn, objectIn, modeIn, order, orderBefore, processorIn}
-use Rattle.table_bytes.specs.Refusals.{hasMark, headerRefusal, mostEntries, lengthRefusal, processorRefusalOf, processorRefusal}
+use Rattle.table_bytes.specs.Bytes.{entryStart, entryRank, entryObject, entryMode, order, orderBefore, processorIn}
+use Rattle.table_bytes.specs.Refusals.{hasMark, headerRefusal, mostEntries, lengthRefusal, processorByteRefusalOf, processorByteRefusal}
 use Rattle.table_bytes.specs.Refusals.{entryRefusal, entryRefusalOf, entriesRefusal, tableRefusal}
-use Rattle.table_bytes.specs.Accepted.{header-jobs}
+use Rattle.table_bytes.specs.AcceptedTable.{header-jobs}
 
 -- ---- when bytes are refused as cut
 
@@ -90,27 +90,27 @@ module _ (b more : List ℕ) where
         ap (λ (n : ℕ). byte (b ++ more) (n + 3 * k + i)) (same-start h)
         ∙ same (entryStart b k + i) (omega arith)
 
-    pub same-rank : (k : ℕ) → k < entryCount b → rankIn (b ++ more) k ≡ rankIn b k
+    pub same-rank : (k : ℕ) → k < entryCount b → entryRank (b ++ more) k ≡ entryRank b k
     same-rank k l =
         ap (λ (n : ℕ). byte (b ++ more) (n + 3 * k)) (same-start h) ∙ same (entryStart b k) (omega arith)
 
-    pub same-object : (k : ℕ) → k < entryCount b → objectIn (b ++ more) k ≡ objectIn b k
+    pub same-object : (k : ℕ) → k < entryCount b → entryObject (b ++ more) k ≡ entryObject b k
     same-object k l = same-entry k 1 l (omega arith)
 
-    pub same-mode : (k : ℕ) → k < entryCount b → modeIn (b ++ more) k ≡ modeIn b k
+    pub same-mode : (k : ℕ) → k < entryCount b → entryMode (b ++ more) k ≡ entryMode b k
     same-mode k l = same-entry k 2 l (omega arith)
 
     same-before : (k : ℕ) → k < entryCount b → orderBefore (b ++ more) k ≡ orderBefore b k
     same-before zero l = refl
     same-before (suc k) l = ap₂ order (same-rank k (omega arith)) (same-object k (omega arith))
 
-    same-processors : processorRefusal (b ++ more) ≡ processorRefusal b
-    unfolding processorRefusal
+    same-processors : processorByteRefusal (b ++ more) ≡ processorByteRefusal b
+    unfolding processorByteRefusal
     same-processors =
-        ap (λ (n : ℕ). firstNonzero n (processorRefusalOf (b ++ more))) (same-jobs h)
-        ∙ first-nonzero-same (jobsIn b) (processorRefusalOf (b ++ more)) (processorRefusalOf b) each
+        ap (λ (n : ℕ). firstNonzero n (processorByteRefusalOf (b ++ more))) (same-jobs h)
+        ∙ first-nonzero-same (jobsIn b) (processorByteRefusalOf (b ++ more)) (processorByteRefusalOf b) each
       where
-        each : (i : ℕ) → 1 ≤ i → i ≤ jobsIn b → processorRefusalOf (b ++ more) i ≡ processorRefusalOf b i
+        each : (i : ℕ) → 1 ≤ i → i ≤ jobsIn b → processorByteRefusalOf (b ++ more) i ≡ processorByteRefusalOf b i
         each zero l m = refl
         each (suc k) l m = simp (same 5 (omega arith), same (8 + k) (omega arith))
 
@@ -123,9 +123,9 @@ module _ (b more : List ℕ) where
         each : (i : ℕ) → 1 ≤ i → i ≤ entryCount b → entryRefusalOf (b ++ more) i ≡ entryRefusalOf b i
         each zero l m = refl
         each (suc k) l m =
-            ap₂ (λ (x y : ℕ). entryRefusal x y (orderBefore (b ++ more) k) (rankIn (b ++ more) k) (objectIn (b ++ more) k) (modeIn (b ++ more) k)) (same-jobs h) (same 7 (omega arith))
-            ∙ ap₂ (λ (x y : ℕ). entryRefusal (jobsIn b) (objectsIn b) x y (objectIn (b ++ more) k) (modeIn (b ++ more) k)) (same-before k m) (same-rank k m)
-            ∙ ap₂ (λ (x y : ℕ). entryRefusal (jobsIn b) (objectsIn b) (orderBefore b k) (rankIn b k) x y) (same-object k m) (same-mode k m)
+            ap₂ (λ (x y : ℕ). entryRefusal x y (orderBefore (b ++ more) k) (entryRank (b ++ more) k) (entryObject (b ++ more) k) (entryMode (b ++ more) k)) (same-jobs h) (same 7 (omega arith))
+            ∙ ap₂ (λ (x y : ℕ). entryRefusal (jobsIn b) (objectsIn b) x y (entryObject (b ++ more) k) (entryMode (b ++ more) k)) (same-before k m) (same-rank k m)
+            ∙ ap₂ (λ (x y : ℕ). entryRefusal (jobsIn b) (objectsIn b) (orderBefore b k) (entryRank b k) x y) (same-object k m) (same-mode k m)
 
   -- the refusal of bytes that are not cut is that of more bytes
   pub refusal-decided : (tableRefusal b ≡ 1 → ⊥) → tableRefusal (b ++ more) ≡ tableRefusal b
@@ -177,11 +177,11 @@ module _ (b : List ℕ) where
       (if-not 1 3 (not (eqb (versionIn b) 1)) _ (λ q. omega arith)
       (if-not 1 4 (not (countsWithin (processorsIn b) (jobsIn b) (objectsIn b))) 0 (λ q. omega arith) (λ q. omega arith))) rest
 
-  processors-not-one : processorRefusal b ≡ 1 → ⊥
-  unfolding processorRefusal
-  processors-not-one = first-nonzero-not 1 (jobsIn b) (processorRefusalOf b) (λ q. omega arith) each
+  processors-not-one : processorByteRefusal b ≡ 1 → ⊥
+  unfolding processorByteRefusal
+  processors-not-one = first-nonzero-not 1 (jobsIn b) (processorByteRefusalOf b) (λ q. omega arith) each
     where
-      each : (i : ℕ) → processorRefusalOf b i ≡ 1 → ⊥
+      each : (i : ℕ) → processorByteRefusalOf b i ≡ 1 → ⊥
       each zero e = omega arith
       each (suc k) e = if-not 1 5 (not (ltb (processorIn b k) (processorsIn b))) 0 (λ q. omega arith) (λ q. omega arith) e
 
@@ -192,8 +192,8 @@ module _ (b : List ℕ) where
       each : (i : ℕ) → entryRefusalOf b i ≡ 1 → ⊥
       each zero e = omega arith
       each (suc k) e =
-          if-not 1 6 (not (between 1 (jobsIn b) (rankIn b k) && between 1 (objectsIn b) (objectIn b k) && between 1 3 (modeIn b k))) _ (λ q. omega arith)
-          (if-not 1 7 (not (ltb (orderBefore b k) (order (rankIn b k) (objectIn b k)))) 0 (λ q. omega arith) (λ q. omega arith)) e
+          if-not 1 6 (not (between 1 (jobsIn b) (entryRank b k) && between 1 (objectsIn b) (entryObject b k) && between 1 3 (entryMode b k))) _ (λ q. omega arith)
+          (if-not 1 7 (not (ltb (orderBefore b k) (order (entryRank b k) (entryObject b k)))) 0 (λ q. omega arith) (λ q. omega arith)) e
 
   whole-not-one : headerRefusal b ≡ 0 → longestTable ≤ length b → lengthRefusal b ≡ 1 → ⊥
   whole-not-one ok h e =
@@ -213,5 +213,5 @@ module _ (b : List ℕ) where
       go : longestTable ≤ length b → (v : ℕ) → headerRefusal b ≡ v → ⊥
       go h zero q =
           or-else-not 1 (lengthRefusal b) _ (whole-not-one q h)
-          (or-else-not 1 (processorRefusal b) (entriesRefusal b) processors-not-one entries-not-one) (simp q at e)
+          (or-else-not 1 (processorByteRefusal b) (entriesRefusal b) processors-not-one entries-not-one) (simp q at e)
       go h (suc v) q = header-not-one (omega arith) (q ∙ simp q at e)

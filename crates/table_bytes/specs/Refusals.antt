@@ -11,7 +11,7 @@ use Rattle.basics.specs.Choice.{_if_else_, _orElse_, between}
 use Rattle.basics.specs.Loops.{firstNonzero}
 use Rattle.state.specs.WellFormed.{countsWithin}
 use Rattle.table_bytes.specs.Bytes.{byte, versionIn, processorsIn, jobsIn, objectsIn, processorIn, entryCount, entriesStart, tableLength}
-use Rattle.table_bytes.specs.Bytes.{rankIn, objectIn, modeIn, order, orderBefore}
+use Rattle.table_bytes.specs.Bytes.{entryRank, entryObject, entryMode, order, orderBefore}
 
 -- the mark `JOB`
 abbrev pub hasMark : List ℕ → Bool
@@ -39,12 +39,12 @@ lengthRefusal b =
     0
 
 -- 5 processor byte too large: that of rank r
-abbrev pub processorRefusalOf : List ℕ → ℕ → ℕ
-processorRefusalOf b zero = 0
-processorRefusalOf b (suc k) = 5 if not (ltb (processorIn b k) (processorsIn b)) else 0
+abbrev pub processorByteRefusalOf : List ℕ → ℕ → ℕ
+processorByteRefusalOf b zero = 0
+processorByteRefusalOf b (suc k) = 5 if not (ltb (processorIn b k) (processorsIn b)) else 0
 
-unfoldable pub processorRefusal : List ℕ → ℕ
-processorRefusal b = firstNonzero (jobsIn b) (processorRefusalOf b)
+unfoldable pub processorByteRefusal : List ℕ → ℕ
+processorByteRefusal b = firstNonzero (jobsIn b) (processorByteRefusalOf b)
 
 -- 6 entry field out of range; 7 entry not after the one before, whose order is given: in a table of so many jobs and objects
 unfoldable pub entryRefusal : ℕ → ℕ → ℕ → ℕ → ℕ → ℕ → ℕ
@@ -56,7 +56,7 @@ entryRefusal jobs objects before rank object mode =
 -- of entry i, counted from 1
 abbrev pub entryRefusalOf : List ℕ → ℕ → ℕ
 entryRefusalOf b zero = 0
-entryRefusalOf b (suc k) = entryRefusal (jobsIn b) (objectsIn b) (orderBefore b k) (rankIn b k) (objectIn b k) (modeIn b k)
+entryRefusalOf b (suc k) = entryRefusal (jobsIn b) (objectsIn b) (orderBefore b k) (entryRank b k) (entryObject b k) (entryMode b k)
 
 -- the first faulty entry decides
 unfoldable pub entriesRefusal : List ℕ → ℕ
@@ -64,4 +64,4 @@ entriesRefusal b = firstNonzero (entryCount b) (entryRefusalOf b)
 
 -- the number of the refusal of table bytes, 0 if they are accepted
 unfoldable pub tableRefusal : List ℕ → ℕ
-tableRefusal b = headerRefusal b orElse lengthRefusal b orElse processorRefusal b orElse entriesRefusal b
+tableRefusal b = headerRefusal b orElse lengthRefusal b orElse processorByteRefusal b orElse entriesRefusal b

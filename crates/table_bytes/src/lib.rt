@@ -1,9 +1,9 @@
 // Table bytes: where their parts stand, and the refusals 1 to 7.
 mod bytes;
-mod refusals;
+mod table_refusals;
 
 pub use bytes::entry_count;
 pub use bytes::entry_start;
 pub use bytes::table_length;
 pub use bytes::wide;
-pub use refusals::table_refusal;
+pub use table_refusals::table_refusal;

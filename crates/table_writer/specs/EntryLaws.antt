@@ -12,7 +12,7 @@ use Rattle.ranks.specs.Ranks.{member, union}
 use Rattle.ranks.specs.UnionLaws.{member-union, size-counts}
 use Rattle.state.specs.declared.State.{State}
 use Rattle.table_writer.specs.Writing.{entryBytes, rankBytes, entriesBytes}
-use Rattle.table_writer.specs.Laying.{modeIn, modesIn, entriesOfRank, entriesOfRanks, entriesOn, entryTotal}
+use Rattle.table_writer.specs.Laying.{declaredModeOf, declaredModes, entriesOfRank, entriesOfRanks, entriesOn, entryTotal}
 use Rattle.table_writer.specs.JoinedLaws.{joined-grows}
 
 -- ---- one entry
@@ -26,7 +26,7 @@ entry-some rank object (suc m) h = refl
 
 -- a rank has an entry for an object if it may read or write it
 entry-length : (reading writing rank object : ℕ)
-    → length (entryBytes rank object (modeIn reading writing rank)) ≡ 3 * oneIf (member (union reading writing) rank)
+    → length (entryBytes rank object (declaredModeOf reading writing rank)) ≡ 3 * oneIf (member (union reading writing) rank)
 entry-length reading writing rank object =
     go (member reading rank) (member writing rank) ∙ ap (λ (t : Bool). 3 * oneIf t) (sym (member-union reading writing rank))
   where
@@ -63,7 +63,7 @@ module _ (mode : ℕ → ℕ → ℕ) where
 
 -- ---- the entries of a state, and how many there are
 
-pub state-entries : (s : State) → entriesBytes s ≡ entriesOfRanks (modesIn (s .«may_read») (s .«may_write»)) (s .objects) (s .jobs)
+pub state-entries : (s : State) → entriesBytes s ≡ entriesOfRanks (declaredModes (s .«may_read») (s .«may_write»)) (s .objects) (s .jobs)
 unfolding entriesBytes rankBytes entriesOfRanks entriesOfRank
 state-entries s = refl
 
@@ -73,18 +73,18 @@ module _ (reads writes : List ℕ) (objects j : ℕ)
   abbrev has : ℕ → ℕ → ℕ
   has r o = oneIf (member (union (at reads o) (at writes o)) r)
 
-  rank-count : (r : ℕ) → length (entriesOfRank (modesIn reads writes) r objects) ≡ 3 * sum objects (has r)
+  rank-count : (r : ℕ) → length (entriesOfRank (declaredModes reads writes) r objects) ≡ 3 * sum objects (has r)
   unfolding entriesOfRank
   rank-count r =
-      length-joined objects (λ o. entryBytes r o (modesIn reads writes r o))
-      ∙ sum-same objects (λ o. length (entryBytes r o (modesIn reads writes r o))) (λ o. 3 * has r o) (λ o a b. entry-length (at reads o) (at writes o) r o)
+      length-joined objects (λ o. entryBytes r o (declaredModes reads writes r o))
+      ∙ sum-same objects (λ o. length (entryBytes r o (declaredModes reads writes r o))) (λ o. 3 * has r o) (λ o a b. entry-length (at reads o) (at writes o) r o)
       ∙ sum-times objects 3 (has r)
 
-  pub entries-counted : 3 * entryTotal reads writes objects ≡ length (entriesOfRanks (modesIn reads writes) objects j)
+  pub entries-counted : 3 * entryTotal reads writes objects ≡ length (entriesOfRanks (declaredModes reads writes) objects j)
   unfolding entriesOfRanks entryTotal
   entries-counted =
-      sym (length-joined j (λ r. entriesOfRank (modesIn reads writes) r objects)
-      ∙ sum-same j (λ r. length (entriesOfRank (modesIn reads writes) r objects)) (λ r. 3 * sum objects (has r)) (λ r a b. rank-count r)
+      sym (length-joined j (λ r. entriesOfRank (declaredModes reads writes) r objects)
+      ∙ sum-same j (λ r. length (entriesOfRank (declaredModes reads writes) r objects)) (λ r. 3 * sum objects (has r)) (λ r a b. rank-count r)
       ∙ sum-times j 3 (λ r. sum objects (has r))
       ∙ ap (λ (n : ℕ). 3 * n) (sum-swap j objects has
       ∙ sum-same objects (λ o. sum j (λ r. has r o)) (entriesOn reads writes)

@@ -11,12 +11,12 @@ use Rattle.state.specs.State.{freshState}
 use Rattle.table_writer.specs.Writing.{headerBytes, entryBytes, tableBytes}
 
 -- the mode of an entry of rank r for an object with these sets of declared ranks
-abbrev pub modeIn : ℕ → ℕ → ℕ → ℕ
-modeIn reading writing r = (if member reading r then 1 else 0) + (if member writing r then 2 else 0)
+abbrev pub declaredModeOf : ℕ → ℕ → ℕ → ℕ
+declaredModeOf reading writing r = (if member reading r then 1 else 0) + (if member writing r then 2 else 0)
 
 -- the mode by rank and object, where the sets are by object
-abbrev pub modesIn : List ℕ → List ℕ → ℕ → ℕ → ℕ
-modesIn reads writes r o = modeIn (at reads o) (at writes o) r
+abbrev pub declaredModes : List ℕ → List ℕ → ℕ → ℕ → ℕ
+declaredModes reads writes r o = declaredModeOf (at reads o) (at writes o) r
 
 -- the entries of rank r for the objects 1, .., n
 unfoldable pub entriesOfRank : (ℕ → ℕ → ℕ) → ℕ → ℕ → List ℕ

@@ -14,13 +14,13 @@ use Rattle.basics.specs.Arrays.{at, at-zeros}
 use Rattle.ranks.specs.Ranks.{member}
 use Rattle.ranks.specs.RankLaws.{member-empty}
 use Rattle.state.specs.State.{read, write, mostObjects, zeros}
-use Rattle.table_bytes.specs.Bytes.{byte, processorsIn, jobsIn, objectsIn, entryCount, entriesStart, tableLength, rankIn, objectIn, modeIn, order, orderBefore}
-use Rattle.table_bytes.specs.Accepted.{Accepted, EntryFits}
+use Rattle.table_bytes.specs.Bytes.{byte, processorsIn, jobsIn, objectsIn, entryCount, entriesStart, tableLength, entryRank, entryObject, entryMode, order, orderBefore}
+use Rattle.table_bytes.specs.AcceptedTable.{AcceptedTable, EntryFits}
 use Rattle.table.specs.Reading.{givesRight, processorsOf, declaredIn, tableState}
 use Rattle.table_writer.specs.Writing.{wordBytes, entriesBytes, tableBytes}
-use Rattle.table_writer.specs.Laying.{modesIn, entriesOfRanks, headerOf}
+use Rattle.table_writer.specs.Laying.{declaredModes, entriesOfRanks, headerOf}
 use Rattle.table_writer.specs.EntryLaws.{state-entries}
-use Rattle.table_writer.specs.RightLaws.{modeOf, no-mode, mode-of-rights, right-made, right-kept, length-declared}
+use Rattle.table_writer.specs.RightLaws.{modeOfRights, no-mode, mode-of-rights, right-made, right-kept, length-declared}
 use Rattle.table_writer.specs.EntryOrder.{entries-none, entries-add}
 
 -- ---- two, three and eight bytes of a list
@@ -49,40 +49,40 @@ eight l h =
     (take-suc l 2 0 (omega arith) ∙ ap (λ (t : List ℕ). t ++ (getD l 2 0 ∷ []))
     (take-suc l 1 0 (omega arith) ∙ ap (λ (t : List ℕ). t ++ (getD l 1 0 ∷ [])) (take-suc l 0 0 (omega arith))))))))
 
-module _ (b : List ℕ) (ok : Accepted b) where
+module _ (b : List ℕ) (ok : AcceptedTable b) where
   -- ---- the entries
 
   -- the modes that the first k entries declare
   abbrev after : ℕ → ℕ → ℕ → ℕ
-  after k = modesIn (declaredIn read b k) (declaredIn write b k)
+  after k = declaredModes (declaredIn read b k) (declaredIn write b k)
 
   module _ (k : ℕ) (l : k < entryCount b) where
     abbrev fits : EntryFits b k
     fits = ok .entry k l
 
-    room : (m : ℕ) → objectIn b k ≤ length (declaredIn m b k)
+    room : (m : ℕ) → entryObject b k ≤ length (declaredIn m b k)
     room m = omega (arith, length-declared m b k, fits .object-high, ok .objects-high)
 
     -- entry k changes no other mode
-    kept : (r o : ℕ) → 1 ≤ o → o ≤ mostObjects → (order r o ≡ order (rankIn b k) (objectIn b k) → ⊥) → after (suc k) r o ≡ after k r o
+    kept : (r o : ℕ) → 1 ≤ o → o ≤ mostObjects → (order r o ≡ order (entryRank b k) (entryObject b k) → ⊥) → after (suc k) r o ≡ after k r o
     unfolding declaredIn
     kept r o low high d =
-        let other : (rankIn b k ≡ r) × (objectIn b k ≡ o) → ⊥ = λ z. d (omega (arith, z .0, z .1)) in
-        ap₂ modeOf
-        (right-kept read (rankIn b k) (objectIn b k) (modeIn b k) (declaredIn read b k) (fits .object-low) (room read) r o other)
-        (right-kept write (rankIn b k) (objectIn b k) (modeIn b k) (declaredIn write b k) (fits .object-low) (room write) r o other)
+        let other : (entryRank b k ≡ r) × (entryObject b k ≡ o) → ⊥ = λ z. d (omega (arith, z .0, z .1)) in
+        ap₂ modeOfRights
+        (right-kept read (entryRank b k) (entryObject b k) (entryMode b k) (declaredIn read b k) (fits .object-low) (room read) r o other)
+        (right-kept write (entryRank b k) (entryObject b k) (entryMode b k) (declaredIn write b k) (fits .object-low) (room write) r o other)
 
     -- and makes its own
-    made : after k (rankIn b k) (objectIn b k) ≡ 0 → after (suc k) (rankIn b k) (objectIn b k) ≡ modeIn b k
+    made : after k (entryRank b k) (entryObject b k) ≡ 0 → after (suc k) (entryRank b k) (entryObject b k) ≡ entryMode b k
     unfolding declaredIn
     made z =
-        let none = no-mode (member (at (declaredIn read b k) (objectIn b k)) (rankIn b k)) (member (at (declaredIn write b k) (objectIn b k)) (rankIn b k)) z in
-        ap₂ modeOf
-        (right-made read (rankIn b k) (objectIn b k) (modeIn b k) (declaredIn read b k) (fits .object-low) (room read) (fits .rank-low)
-        ∙ ap (λ (t : Bool). givesRight (modeIn b k) read || t) (none .0) ∙ or-none (givesRight (modeIn b k) read))
-        (right-made write (rankIn b k) (objectIn b k) (modeIn b k) (declaredIn write b k) (fits .object-low) (room write) (fits .rank-low)
-        ∙ ap (λ (t : Bool). givesRight (modeIn b k) write || t) (none .1) ∙ or-none (givesRight (modeIn b k) write))
-        ∙ mode-of-rights (modeIn b k) (fits .mode-low) (fits .mode-high)
+        let none = no-mode (member (at (declaredIn read b k) (entryObject b k)) (entryRank b k)) (member (at (declaredIn write b k) (entryObject b k)) (entryRank b k)) z in
+        ap₂ modeOfRights
+        (right-made read (entryRank b k) (entryObject b k) (entryMode b k) (declaredIn read b k) (fits .object-low) (room read) (fits .rank-low)
+        ∙ ap (λ (t : Bool). givesRight (entryMode b k) read || t) (none .0) ∙ or-none (givesRight (entryMode b k) read))
+        (right-made write (entryRank b k) (entryObject b k) (entryMode b k) (declaredIn write b k) (fits .object-low) (room write) (fits .rank-low)
+        ∙ ap (λ (t : Bool). givesRight (entryMode b k) write || t) (none .1) ∙ or-none (givesRight (entryMode b k) write))
+        ∙ mode-of-rights (entryMode b k) (fits .mode-low) (fits .mode-high)
       where
         or-none : (t : Bool) → t || false ≡ t
         or-none true = refl
@@ -93,13 +93,13 @@ module _ (b : List ℕ) (ok : Accepted b) where
   unfolding declaredIn
   none-behind zero l r o low high h =
       let none : member (at (zeros mostObjects) o) r ≡ false = ap (λ (n : ℕ). member n r) (at-zeros mostObjects o) ∙ member-empty r in
-      ap₂ modeOf none none
+      ap₂ modeOfRights none none
   none-behind (suc k) l r o low high h =
       let e = ok .entry k l in
       kept k l r o low high (λ z. omega arith) ∙ none-behind k (omega arith) r o low high (omega (arith, e .after))
 
   -- the bytes of entry k
-  entry-bytes : (k : ℕ) → k < entryCount b → take (3 * suc k) (drop (entriesStart b) b) ≡ take (3 * k) (drop (entriesStart b) b) ++ (rankIn b k ∷ objectIn b k ∷ modeIn b k ∷ [])
+  entry-bytes : (k : ℕ) → k < entryCount b → take (3 * suc k) (drop (entriesStart b) b) ≡ take (3 * k) (drop (entriesStart b) b) ++ (entryRank b k ∷ entryObject b k ∷ entryMode b k ∷ [])
   entry-bytes k l =
       let rest = drop (entriesStart b) b in
       let n : 3 * suc k ≡ 3 * k + 3 = omega arith in
@@ -114,12 +114,12 @@ module _ (b : List ℕ) (ok : Accepted b) where
   entries-back (suc k) l =
       let e = ok .entry k l in
       let most = ok .objects-high in
-      let mode = made k l (none-behind k (omega arith) (rankIn b k) (objectIn b k) (e .object-low) (omega arith) (e .after)) in
-      entries-add (after k) (after (suc k)) (objectsIn b) (jobsIn b) (rankIn b k) (objectIn b k) most (e .rank-low) (e .rank-high) (e .object-low) (e .object-high)
+      let mode = made k l (none-behind k (omega arith) (entryRank b k) (entryObject b k) (e .object-low) (omega arith) (e .after)) in
+      entries-add (after k) (after (suc k)) (objectsIn b) (jobsIn b) (entryRank b k) (entryObject b k) most (e .rank-low) (e .rank-high) (e .object-low) (e .object-high)
       (λ r o a u v d. kept k l r o u (omega arith) d)
       (λ z. omega (arith, e .mode-low))
       (λ r o a u v g. none-behind k (omega arith) r o u (omega arith) (omega (arith, e .after)))
-      ∙ ap₂ (λ (x : List ℕ) (m : ℕ). x ++ (rankIn b k ∷ objectIn b k ∷ m ∷ [])) (entries-back k (omega arith)) mode
+      ∙ ap₂ (λ (x : List ℕ) (m : ℕ). x ++ (entryRank b k ∷ entryObject b k ∷ m ∷ [])) (entries-back k (omega arith)) mode
       ∙ sym (entry-bytes k l)
 
   -- ---- the parts

@@ -14,40 +14,40 @@ use Rattle.basics.specs.Arrays.{at, put, at-put-same, at-put-other, length-put}
 use Rattle.ranks.specs.Ranks.{member, with}
 use Rattle.ranks.specs.RankLaws.{member-with-same, member-with-other}
 use Rattle.state.specs.State.{read, write, mostObjects}
-use Rattle.table_bytes.specs.Bytes.{rankIn, objectIn, modeIn}
+use Rattle.table_bytes.specs.Bytes.{entryRank, entryObject, entryMode}
 use Rattle.table.specs.Reading.{givesRight, withRight, declaredIn}
 
 -- ---- the mode made of two rights
 
-abbrev pub modeOf : Bool → Bool → ℕ
-modeOf reads writes = (if reads then 1 else 0) + (if writes then 2 else 0)
+abbrev pub modeOfRights : Bool → Bool → ℕ
+modeOfRights reads writes = (if reads then 1 else 0) + (if writes then 2 else 0)
 
-pub mode-reads : (s t : Bool) → givesRight (modeOf s t) read ≡ s
+pub mode-reads : (s t : Bool) → givesRight (modeOfRights s t) read ≡ s
 mode-reads false false = refl
 mode-reads false true = refl
 mode-reads true false = refl
 mode-reads true true = refl
 
-pub mode-writes : (s t : Bool) → givesRight (modeOf s t) write ≡ t
+pub mode-writes : (s t : Bool) → givesRight (modeOfRights s t) write ≡ t
 mode-writes false false = refl
 mode-writes false true = refl
 mode-writes true false = refl
 mode-writes true true = refl
 
-pub mode-most : (s t : Bool) → modeOf s t ≤ 3
+pub mode-most : (s t : Bool) → modeOfRights s t ≤ 3
 mode-most false false = omega arith
 mode-most false true = omega arith
 mode-most true false = omega arith
 mode-most true true = omega arith
 
-pub no-mode : (s t : Bool) → modeOf s t ≡ 0 → (s ≡ false) × (t ≡ false)
+pub no-mode : (s t : Bool) → modeOfRights s t ≡ 0 → (s ≡ false) × (t ≡ false)
 no-mode false false e = (refl, refl)
 no-mode false true e = absurd (omega arith)
 no-mode true false e = absurd (omega arith)
 no-mode true true e = absurd (omega arith)
 
 -- a mode is made of the rights that it gives
-pub mode-of-rights : (m : ℕ) → 1 ≤ m → m ≤ 3 → modeOf (givesRight m read) (givesRight m write) ≡ m
+pub mode-of-rights : (m : ℕ) → 1 ≤ m → m ≤ 3 → modeOfRights (givesRight m read) (givesRight m write) ≡ m
 mode-of-rights zero l h = absurd (omega arith)
 mode-of-rights (suc zero) l h = refl
 mode-of-rights (suc (suc zero)) l h = refl
@@ -112,4 +112,4 @@ module _ (m rank object mode : ℕ) (sets : List ℕ) where
 pub length-declared : (m : ℕ) (b : List ℕ) (k : ℕ) → length (declaredIn m b k) ≡ mostObjects
 unfolding declaredIn
 length-declared m b zero = length-replicate {A = ℕ} mostObjects 0
-length-declared m b (suc k) = length-with-right m (rankIn b k) (objectIn b k) (modeIn b k) (declaredIn m b k) ∙ length-declared m b k
+length-declared m b (suc k) = length-with-right m (entryRank b k) (entryObject b k) (entryMode b k) (declaredIn m b k) ∙ length-declared m b k

@@ -12,7 +12,7 @@ use Rattle.state.specs.WellFormed.{wellFormed}
 use Rattle.table.specs.declared.TableRead.{TableRead}
 use Rattle.table_bytes.specs.Bytes.{byte}
 use Rattle.table_bytes.specs.Refusals.{tableRefusal}
-use Rattle.table_bytes.specs.Accepted.{accepted, accepted-refusal}
+use Rattle.table_bytes.specs.AcceptedTable.{accepted-table, accepted-refusal}
 use Rattle.table.specs.Reading.{readTable}
 use Rattle.table.specs.Fresh.{read-refusal, read-accepted}
 use Rattle.table_writer.specs.Writing.{tableBytes, written}
@@ -26,7 +26,7 @@ pub read-then-write : (b : List ℕ) → ((i : ℕ) → byte b i < 256) → read
 read-then-write b bytes e =
     let ok : tableRefusal b ≡ 0 = sym (read-refusal b) ∙ e in
     let r = read-accepted b ok in
-    ap (λ (x : TableRead). tableBytes (x .state)) r ∙ table-back b (accepted b ok) bytes ∙ ap (λ (x : TableRead). take (x .used) b) (sym r)
+    ap (λ (x : TableRead). tableBytes (x .state)) r ∙ table-back b (accepted-table b ok) bytes ∙ ap (λ (x : TableRead). take (x .used) b) (sym r)
 
 -- what a state's table is read as: the fresh state of the same table, and its length as used;
 -- a rank above the job count, whose processor the table does not have, gets processor 0

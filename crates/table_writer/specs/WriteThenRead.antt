@@ -15,11 +15,11 @@ use Rattle.ranks.specs.UnionLaws.{le-union}
 use Rattle.state.specs.declared.State.{State}
 use Rattle.state.specs.State.{read, write, mostObjects, zeros, freshState, declaredAny}
 use Rattle.table_bytes.specs.Bytes.{byte, processorsIn, jobsIn, objectsIn, entryCount, entriesStart, tableLength}
-use Rattle.table_bytes.specs.Accepted.{Accepted}
+use Rattle.table_bytes.specs.AcceptedTable.{AcceptedTable}
 use Rattle.table.specs.Declarations.{declared-fits}
 use Rattle.table.specs.Reading.{processorsOf, declaredIn, tableState}
 use Rattle.table_writer.specs.Writing.{headerBytes, wordBytes, entriesBytes, tableBytes}
-use Rattle.table_writer.specs.Laying.{modesIn, entriesOfRanks, entriesOn, entryTotal}
+use Rattle.table_writer.specs.Laying.{declaredModes, entriesOfRanks, entriesOn, entryTotal}
 use Rattle.table_writer.specs.EntryLaws.{state-entries}
 use Rattle.table_writer.specs.TableFits.{TableFits}
 use Rattle.table_writer.specs.TableLaws.{entry-third, front-length, entries-total, whole-length}
@@ -117,7 +117,7 @@ module _ (s : State) (fits : TableFits s) (rest : List ℕ)
   unfolding tableBytes
   count-is = omega (arith, high, low, n-most)
 
-  tail : drop (entriesStart b) b ≡ entriesOfRanks (modesIn (s .«may_read») (s .«may_write»)) (s .objects) (s .jobs) ++ rest
+  tail : drop (entriesStart b) b ≡ entriesOfRanks (declaredModes (s .«may_read») (s .«may_write»)) (s .objects) (s .jobs) ++ rest
   unfolding behind
   tail =
       let parts : b ≡ (header ++ homes ++ wordBytes n) ++ (entriesBytes s ++ rest) = whole ∙ simp append-assoc in
@@ -128,7 +128,7 @@ module _ (s : State) (fits : TableFits s) (rest : List ℕ)
 
   -- ---- the entries
 
-  is-third : 3 * n ≡ length (entriesOfRanks (modesIn (s .«may_read») (s .«may_write»)) (s .objects) (s .jobs))
+  is-third : 3 * n ≡ length (entriesOfRanks (declaredModes (s .«may_read») (s .«may_write»)) (s .objects) (s .jobs))
   is-third = n-third ∙ ap length (state-entries s)
 
   reads-out : (o : ℕ) → s .objects < o → o ≤ mostObjects → at (s .«may_read») o ≡ 0
@@ -143,7 +143,7 @@ module _ (s : State) (fits : TableFits s) (rest : List ℕ)
   writes-small : (o : ℕ) → 1 ≤ o → o ≤ mostObjects → at (s .«may_write») o < 2 ^ s .jobs
   writes-small o a h = omega (arith, fits .declared-small o a h, le-union (at (s .«may_read») o) (at (s .«may_write») o) .1)
 
-  pub table-accepted : Accepted b
+  pub table-accepted : AcceptedTable b
   unfolding tableBytes
   table-accepted =
       let j = jobs-are in

@@ -17,11 +17,11 @@ use Rattle.basics.specs.Arrays.{at, at-zeros}
 use Rattle.ranks.specs.Ranks.{member}
 use Rattle.ranks.specs.RankLaws.{member-zero, member-empty, same-members}
 use Rattle.state.specs.State.{read, write, mostObjects, zeros}
-use Rattle.table_bytes.specs.Bytes.{byte, jobsIn, objectsIn, entriesStart, rankIn, objectIn, modeIn, order, orderBefore}
-use Rattle.table_bytes.specs.Accepted.{EntryFits}
+use Rattle.table_bytes.specs.Bytes.{byte, jobsIn, objectsIn, entriesStart, entryRank, entryObject, entryMode, order, orderBefore}
+use Rattle.table_bytes.specs.AcceptedTable.{EntryFits}
 use Rattle.table.specs.Reading.{givesRight, withRight, declaredIn}
 use Rattle.table_writer.specs.Writing.{entryBytes}
-use Rattle.table_writer.specs.Laying.{modesIn, entriesOfRank, entriesOfRanks}
+use Rattle.table_writer.specs.Laying.{declaredModes, entriesOfRank, entriesOfRanks}
 use Rattle.table_writer.specs.JoinedLaws.{joined-split}
 use Rattle.table_writer.specs.EntryLaws.{entry-none, entry-some}
 use Rattle.table_writer.specs.RightLaws.{mode-reads, mode-writes, mode-most, no-mode, right-made, right-kept, length-declared}
@@ -105,9 +105,9 @@ read-all sets now j long-sets long-now small-sets small-now sofar =
 -- ---- the entries of a written table, in bytes b with `rest` behind them
 
 module _ (reads writes : List ℕ) (objects j : ℕ) (b rest : List ℕ) (small : objects ≤ mostObjects) (is-j : jobsIn b ≡ j) (is-o : objectsIn b ≡ objects)
-    (tail : drop (entriesStart b) b ≡ entriesOfRanks (modesIn reads writes) objects j ++ rest) where
+    (tail : drop (entriesStart b) b ≡ entriesOfRanks (declaredModes reads writes) objects j ++ rest) where
   abbrev modes : ℕ → ℕ → ℕ
-  modes = modesIn reads writes
+  modes = declaredModes reads writes
 
   abbrev all : List ℕ
   all = entriesOfRanks modes objects j ++ rest
@@ -119,13 +119,13 @@ module _ (reads writes : List ℕ) (objects j : ℕ) (b rest : List ℕ) (small 
         sym (getD-drop (entriesStart b) b (3 * c + i) 0) ∙ ap (λ (l : List ℕ). getD l (3 * c + i) 0) (tail ∙ here)
         ∙ ap (λ (n : ℕ). getD (p ++ (r ∷ o ∷ m ∷ more)) (n + i) 0) (sym long) ∙ getD-append-add p (r ∷ o ∷ m ∷ more) i 0
 
-    rank-at : rankIn b c ≡ r
+    rank-at : entryRank b c ≡ r
     rank-at = ap (λ (n : ℕ). byte b (entriesStart b + n)) (sym (add-zero (3 * c))) ∙ nth 0
 
-    object-at : objectIn b c ≡ o
+    object-at : entryObject b c ≡ o
     object-at = ap (byte b) (add-assoc (entriesStart b) (3 * c) 1) ∙ nth 1
 
-    mode-at : modeIn b c ≡ m
+    mode-at : entryMode b c ≡ m
     mode-at = ap (byte b) (add-assoc (entriesStart b) (3 * c) 2) ∙ nth 2
 
   -- what is known once the entries in the first `size` bytes are read: they fit, and they are those of an order before `next`
@@ -165,13 +165,13 @@ module _ (reads writes : List ℕ) (objects j : ℕ) (b rest : List ℕ) (small 
       here-now : all ≡ p ++ (q ∷ x ∷ modes q x ∷ more)
       here-now = here ∙ ap (λ (t : List ℕ). p ++ (t ++ more)) (entry-some q x (modes q x) z)
 
-      rank-is : rankIn b (s .count) ≡ q
+      rank-is : entryRank b (s .count) ≡ q
       rank-is = rank-at p more (s .count) q x (modes q x) here-now (s .long)
 
-      object-is : objectIn b (s .count) ≡ x
+      object-is : entryObject b (s .count) ≡ x
       object-is = object-at p more (s .count) q x (modes q x) here-now (s .long)
 
-      mode-is : modeIn b (s .count) ≡ modes q x
+      mode-is : entryMode b (s .count) ≡ modes q x
       mode-is = mode-at p more (s .count) q x (modes q x) here-now (s .long)
 
       this-fits : EntryFits b (s .count)

@@ -5,7 +5,7 @@ ghost use lib.ListN.{length, take};
 ghost use Rattle.basics.specs.Choice.{if_then_else_};
 ghost use Rattle.ranks.specs.Ranks.{limit};
 ghost use Rattle.table_writer.specs.Writing.{wordBytes, entryBytes};
-ghost use Rattle.table_writer.specs.Laying.{modeIn, modesIn, entriesOfRank, entriesOfRanks, headerOf, tableOf, laid};
+ghost use Rattle.table_writer.specs.Laying.{declaredModeOf, declaredModes, entriesOfRank, entriesOfRanks, headerOf, tableOf, laid};
 use ranks::RankSet;
 use ranks::contains;
 use state::JobProcessors;
@@ -21,7 +21,7 @@ fn when(test: bool, number: u8) -> u8
 // The mode of the rank's entry for an object with these declared ranks: 1 read, 2 write, 3 both, 0 none.
 fn declared_mode(reads: RankSet, writes: RankSet, rank: u8) -> u8
     requires { ⌜ (1 ≤ rank) × (rank ≤ limit) ⌝ }
-    ensures { λ r. ⌜ r ≡ modeIn reads writes rank ⌝ }
+    ensures { λ r. ⌜ r ≡ declaredModeOf reads writes rank ⌝ }
 {
     when(contains(reads, rank), 1) + when(contains(writes, rank), 2)
 }
@@ -51,9 +51,9 @@ fn lay_rank<'a>(
     objects: u8,
 ) -> usize
     requires { ⌜ (1 ≤ rank) × (rank ≤ limit) × (objects ≤ 128)
-        × (at + length (entriesOfRank (modesIn (now reads) (now writes)) rank objects) ≤ length (now buf)) ⌝ }
-    ensures { λ r. ⌜ (r ≡ at + length (entriesOfRank (modesIn (now (reads .entry)) (now (writes .entry))) rank objects))
-        × (now (buf .exit) ≡ laid (now (buf .entry)) at (entriesOfRank (modesIn (now (reads .entry)) (now (writes .entry))) rank objects)) ⌝ }
+        × (at + length (entriesOfRank (declaredModes (now reads) (now writes)) rank objects) ≤ length (now buf)) ⌝ }
+    ensures { λ r. ⌜ (r ≡ at + length (entriesOfRank (declaredModes (now (reads .entry)) (now (writes .entry))) rank objects))
+        × (now (buf .exit) ≡ laid (now (buf .entry)) at (entriesOfRank (declaredModes (now (reads .entry)) (now (writes .entry))) rank objects)) ⌝ }
 {
     let mut end = at;
     let mut object = 0;
@@ -81,8 +81,8 @@ fn lay_entries<'a>(
     objects: u8,
 )
     requires { ⌜ (jobs ≤ limit) × (objects ≤ 128)
-        × (at + length (entriesOfRanks (modesIn (now reads) (now writes)) objects jobs) ≤ length (now buf)) ⌝ }
-    ensures { λ _. ⌜ now (buf .exit) ≡ laid (now (buf .entry)) at (entriesOfRanks (modesIn (now (reads .entry)) (now (writes .entry))) objects jobs) ⌝ }
+        × (at + length (entriesOfRanks (declaredModes (now reads) (now writes)) objects jobs) ≤ length (now buf)) ⌝ }
+    ensures { λ _. ⌜ now (buf .exit) ≡ laid (now (buf .entry)) at (entriesOfRanks (declaredModes (now (reads .entry)) (now (writes .entry))) objects jobs) ⌝ }
 {
     let mut end = at;
     let mut rank = 0;
@@ -140,7 +140,7 @@ pub fn lay_table<'a>(
     count: usize,
 )
     requires { ⌜ (jobs ≤ limit) × (objects ≤ 128) × (length (now «processor_of») ≡ limit)
-        × (3 * count ≡ length (entriesOfRanks (modesIn (now reads) (now writes)) objects jobs))
+        × (3 * count ≡ length (entriesOfRanks (declaredModes (now reads) (now writes)) objects jobs))
         × (10 + jobs + 3 * count ≤ length (now buf)) ⌝ }
     ensures { λ _. ⌜ now (buf .exit) ≡ laid (now (buf .entry)) 0
         (tableOf processors jobs objects (now («processor_of» .entry)) (now (reads .entry)) (now (writes .entry))) ⌝ }

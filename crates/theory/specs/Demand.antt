@@ -291,8 +291,8 @@ module _ {N M : ℕ} {view : ℕ → View} {label : ℕ → Label} (T : Trace N 
         | inr L ↦ absurd (omega (arith, meanwhile-before label j r t t (meanwhile j (u .0) o r t l L) ended))
       ]
 
-  pub demand3 : Demand3 label named
-  demand3 = record { one = one; two = two; three = three }
+  pub trace-demand3 : Demand3 label named
+  trace-demand3 = record { one = one; two = two; three = three }
 
 -- ---- what the statement says besides
 

@@ -12,36 +12,36 @@ use Rattle.theory.specs.Machine.{Passes, Blocked, NamedLock}
 abbrev pub keyOf : (weight : ℕ → ℕ → ℕ) (r p : ℕ) → ℕ
 keyOf weight r p = weight r p * 65536 + r * 256 + p
 
-abbrev pub weightIn : (key : ℕ) → ℕ
-weightIn key = key / 65536
+abbrev pub weightInKey : (key : ℕ) → ℕ
+weightInKey key = key / 65536
 
-abbrev pub holderIn : (key : ℕ) → ℕ
-holderIn key = key / 256 % 256
+abbrev pub holderInKey : (key : ℕ) → ℕ
+holderInKey key = key / 256 % 256
 
-abbrev pub objectIn : (key : ℕ) → ℕ
-objectIn key = key % 256
+abbrev pub objectInKey : (key : ℕ) → ℕ
+objectInKey key = key % 256
 
 -- k is the lowest key of the locks that others than j hold, or past every key if there is none
 pub record Lowest (N : ℕ) (weight : ℕ → ℕ → ℕ) (j k : ℕ) : Type 0 where
   pub below : (r p : ℕ) → r ≢ j → weight r p < N → k ≤ keyOf weight r p
-  pub found : (N ≤ weightIn k) ⊎ ((r : ℕ) × (p : ℕ) × (r ≢ j) × (r < 256) × (p < 256) × (k ≡ keyOf weight r p))
+  pub found : (N ≤ weightInKey k) ⊎ ((r : ℕ) × (p : ℕ) × (r ≢ j) × (r < 256) × (p < 256) × (k ≡ keyOf weight r p))
 
 -- small: who holds a lock, and on what, fit a byte
 module _ {N : ℕ} {weight : ℕ → ℕ → ℕ} {j k : ℕ} (K : Lowest N weight j k) (rank : j < N)
     (small : (r p : ℕ) → weight r p < N → (r < 256) × (p < 256)) where
-  pub key-passes : j < weightIn k → Passes weight j
+  pub key-passes : j < weightInKey k → Passes weight j
   key-passes h r p d = elim (decLt (weight r p) N) [
     | yes l ↦ (let b = K .below r p d l in let c = small r p l in omega arith)
     | no l ↦ omega arith
   ]
 
-  pub key-named : weightIn k ≤ j → NamedLock weight j (holderIn k) (objectIn k)
+  pub key-named : weightInKey k ≤ j → NamedLock weight j (holderInKey k) (objectInKey k)
   key-named h = elim (K .found) [ inl n ↦ absurd (omega arith) | inr x ↦ at (x .0) (x .1) (x .2) (x .3) (x .4) (x .5) ]
     where
-      at : (r p : ℕ) → r ≢ j → r < 256 → p < 256 → k ≡ keyOf weight r p → NamedLock weight j (holderIn k) (objectIn k)
+      at : (r p : ℕ) → r ≢ j → r < 256 → p < 256 → k ≡ keyOf weight r p → NamedLock weight j (holderInKey k) (objectInKey k)
       at r p d a b e =
-          let er : holderIn k ≡ r = omega arith in
-          let ep : objectIn k ≡ p = omega arith in
+          let er : holderInKey k ≡ r = omega arith in
+          let ep : objectInKey k ≡ p = omega arith in
           let w : weight r p ≤ j = omega arith in
           rw (er, ep) (
             d,
@@ -52,5 +52,5 @@ module _ {N : ℕ} {weight : ℕ → ℕ → ℕ} {j k : ℕ} (K : Lowest N weig
             ],
           )
 
-  pub key-blocked : weightIn k ≤ j → Blocked weight j
-  key-blocked h = let x = key-named h in (holderIn k, objectIn k, x .0, x .1)
+  pub key-blocked : weightInKey k ≤ j → Blocked weight j
+  key-blocked h = let x = key-named h in (holderInKey k, objectInKey k, x .0, x .1)

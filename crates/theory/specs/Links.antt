@@ -6,7 +6,7 @@ use Prim.Native.Nat.{ℕ, zero, suc, _≤_, _<_}
 use native.Mathlib.Omega.{arith}
 use native.Mathlib.Decide.{ℕ-discrete, decLt}
 use Rattle.theory.specs.Words.{Label, Starts, Waits, Unlocks, Ends, Wakens, Never, Run, Pending, by-that-answer, after-waits, Grant, Holds}
-use Rattle.theory.specs.Machine.{View, Releases, TurnsWait, Step, Invariant, Fresh, fresh-invariant}
+use Rattle.theory.specs.Machine.{View, Releases, TurnsWait, Step, Invariant, FreshView, fresh-invariant}
 use Rattle.theory.specs.Keeps.{ends-kind, Takes, takes-took, took-or-kept, wakens-waited, wait-over, began-wait, takes-may, step-invariant, takes-stays, held-on}
 
 -- ---- intervals
@@ -86,7 +86,7 @@ grant-run label j k o i v = elim (v .granted) [
 
 -- events from a fresh state: event i is a step from the state at time i to the one at time i + 1
 pub record Trace (N : ℕ) (view : ℕ → View) (label : ℕ → Label) : Type 0 where
-  pub fresh : Fresh N (view 0)
+  pub fresh : FreshView N (view 0)
   pub step : (i : ℕ) → Step N (view i) (label i) (view (suc i))
 
 module _ {N : ℕ} {view : ℕ → View} {label : ℕ → Label} (T : Trace N view label) where

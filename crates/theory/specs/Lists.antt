@@ -3,8 +3,8 @@
 use mathlib.Core.List.{List, [], _∷_}
 use Prim.Native.Nat.{ℕ, zero, suc}
 use Rattle.theory.specs.Words.{Label, Demand3}
-use Rattle.theory.specs.Machine.{View, Step, Seen, Fresh}
-use Rattle.theory.specs.Demand.{demand3}
+use Rattle.theory.specs.Machine.{View, Step, Seen, FreshView}
+use Rattle.theory.specs.Demand.{trace-demand3}
 use Rattle.theory.specs.Build.{labelled, refused-step}
 
 -- "An event in it is any three bytes, of any kind or none,
@@ -45,8 +45,8 @@ module _ {State Event : Type 0} (next : State → Event → State) (label : Stat
       step-at s g (e ∷ es) (suc t) = step-at (next s e) (G .keeps s e g) es t
 
       -- DEMAND 3 of any list of events from a fresh state
-      pub demand3-of : (s : State) → Good s → Fresh N (view s) → (es : List Event)
+      pub demand3-of : (s : State) → Good s → FreshView N (view s) → (es : List Event)
           → Demand3 (labelAt s es) (λ t. view (stateAt s es t) .names)
       demand3-of s g F es =
-          demand3 {view = λ t. view (stateAt s es t)} {label = labelAt s es}
+          trace-demand3 {view = λ t. view (stateAt s es t)} {label = labelAt s es}
           (record { fresh = F; step = step-at s g es }) (λ t. G .seen (stateAt s es t) (good-at s g es t))

@@ -98,7 +98,7 @@ pub record Seen (N M : ℕ) (s : View) : Type 0 where
       → (o : ℕ) × NamedLock (s .weight) j (s .names j) o
 
 -- every job idle, every object unlocked
-pub record Fresh (N : ℕ) (s : View) : Type 0 where
+pub record FreshView (N : ℕ) (s : View) : Type 0 where
   pub no-lock : (r p : ℕ) → s .weight r p ≡ N
   pub no-request : (j : ℕ) → s .requested j ≡ 0
   pub idle : (j : ℕ) → s .active j ≡ 0
@@ -119,7 +119,7 @@ pub record Invariant (N : ℕ) (s : View) : Type 0 where
   pub waits : (j : ℕ) → s .requested j ≢ 0 → MayRequest N s j
   pub holder : (r o : ℕ) → s .weight r o < N → s .active r ≢ 0
 
-pub fresh-invariant : {N : ℕ} {s : View} → Fresh N s → Invariant N s
+pub fresh-invariant : {N : ℕ} {s : View} → FreshView N s → Invariant N s
 fresh-invariant {N} {s} F =
     record {
       sound = record {

@@ -16,15 +16,15 @@ use lib.ListN.{length, take, drop, length-drop}
 use lib.Seq.{length-take-le}
 use Rattle.basics.specs.Choice.{if_then_else_}
 use Rattle.basics.specs.Loops.{oneIf}
-use Rattle.table_bytes.specs.Bytes.{rankIn, entryCount, entryStart}
-use Rattle.table_bytes.specs.Accepted.{Accepted, accepted}
+use Rattle.table_bytes.specs.Bytes.{entryRank, entryCount, entryStart}
+use Rattle.table_bytes.specs.AcceptedTable.{AcceptedTable, accepted-table}
 use Rattle.table.specs.JobEntries.{jobEntriesRefusal, jobEntries}
 use Rattle.table.specs.JobPart.{FirstFrom, part, ranks-ascend, entries-together, job-accepted}
 
 -- of the first n entries, how many are of smaller ranks
 unfoldable pub smallerEntries : List ℕ → ℕ → ℕ → ℕ
 smallerEntries b rank zero = 0
-smallerEntries b rank (suc k) = smallerEntries b rank k + oneIf (ltb (rankIn b k) rank)
+smallerEntries b rank (suc k) = smallerEntries b rank k + oneIf (ltb (entryRank b k) rank)
 
 unfoldable pub partStart : List ℕ → ℕ → ℕ
 partStart b rank = entryStart b (smallerEntries b rank (entryCount b))
@@ -47,7 +47,7 @@ module _ (b : List ℕ) (rank start size : ℕ) where
 
 -- ---- how many are of smaller ranks
 
-pub smaller-more : (b : List ℕ) (rank n : ℕ) → smallerEntries b rank (n + 1) ≡ smallerEntries b rank n + oneIf (ltb (rankIn b n) rank)
+pub smaller-more : (b : List ℕ) (rank n : ℕ) → smallerEntries b rank (n + 1) ≡ smallerEntries b rank n + oneIf (ltb (entryRank b n) rank)
 unfolding smallerEntries
 smaller-more b rank n = rw add-one
 
@@ -58,33 +58,33 @@ one-if-le false = omega arith
 pub smaller-le : (b : List ℕ) (rank n : ℕ) → smallerEntries b rank n ≤ n
 unfolding smallerEntries
 smaller-le b rank zero = omega arith
-smaller-le b rank (suc k) = omega (arith, smaller-le b rank k, one-if-le (ltb (rankIn b k) rank))
+smaller-le b rank (suc k) = omega (arith, smaller-le b rank k, one-if-le (ltb (entryRank b k) rank))
 
 -- ---- in accepted bytes the ranks ascend, so that the entries of smaller ranks stand first
 
 -- of the first n entries, the first s are of smaller ranks and the others are not
 record Split (b : List ℕ) (rank n s : ℕ) : Type 0 where
-  pub smaller : (k : ℕ) → k < s → rankIn b k < rank
-  pub others : (k : ℕ) → s ≤ k → k < n → rank ≤ rankIn b k
+  pub smaller : (k : ℕ) → k < s → entryRank b k < rank
+  pub others : (k : ℕ) → s ≤ k → k < n → rank ≤ entryRank b k
 
-module _ (b : List ℕ) (a : Accepted b) (rank : ℕ) where
+module _ (b : List ℕ) (a : AcceptedTable b) (rank : ℕ) where
   one-more : (k : ℕ) → k < entryCount b → Split b rank k (smallerEntries b rank k) → Split b rank (suc k) (smallerEntries b rank (suc k))
   unfolding smallerEntries
-  one-more k h rest = go (ltb (rankIn b k) rank) refl (decLe k (smallerEntries b rank k))
+  one-more k h rest = go (ltb (entryRank b k) rank) refl (decLe k (smallerEntries b rank k))
     where
       n : ℕ
       n = smallerEntries b rank k
 
-      go : (t : Bool) → ltb (rankIn b k) rank ≡ t → Dec (k ≤ n) → Split b rank (suc k) (n + oneIf t)
-      go false e d = let l = ltb-false (rankIn b k) rank e in record {
+      go : (t : Bool) → ltb (entryRank b k) rank ≡ t → Dec (k ≤ n) → Split b rank (suc k) (n + oneIf t)
+      go false e d = let l = ltb-false (entryRank b k) rank e in record {
         smaller = λ i p. rest .smaller i (omega arith);
-        others = λ i p q. (let u : i ≤ k = omega arith in ⊎-elim (λ s. omega (arith, ap (rankIn b) s)) (λ s. rest .others i (omega arith) s) (eq-or-lt-of-le u));
+        others = λ i p q. (let u : i ≤ k = omega arith in ⊎-elim (λ s. omega (arith, ap (entryRank b) s)) (λ s. rest .others i (omega arith) s) (eq-or-lt-of-le u));
       }
-      go true e (yes l) = let below = ltb-true (rankIn b k) rank e in let le = smaller-le b rank k in record {
-        smaller = λ i p. (let q : i ≤ k = omega arith in ⊎-elim (λ s. omega (arith, ap (rankIn b) s)) (λ s. rest .smaller i (omega arith)) (eq-or-lt-of-le q));
+      go true e (yes l) = let below = ltb-true (entryRank b k) rank e in let le = smaller-le b rank k in record {
+        smaller = λ i p. (let q : i ≤ k = omega arith in ⊎-elim (λ s. omega (arith, ap (entryRank b) s)) (λ s. rest .smaller i (omega arith)) (eq-or-lt-of-le q));
         others = λ i p q. absurd (omega arith);
       }
-      go true e (no l) = let below = ltb-true (rankIn b k) rank e in absurd (omega (arith, rest .others n (omega arith) (omega arith), ranks-ascend b a n k (omega arith) h))
+      go true e (no l) = let below = ltb-true (entryRank b k) rank e in absurd (omega (arith, rest .others n (omega arith) (omega arith), ranks-ascend b a n k (omega arith) h))
 
   split : (n : ℕ) → n ≤ entryCount b → Split b rank n (smallerEntries b rank n)
   unfolding smallerEntries
@@ -92,8 +92,8 @@ module _ (b : List ℕ) (a : Accepted b) (rank : ℕ) where
   split (suc n) h = one-more n (omega arith) (split n (omega arith))
 
 module _ (b : List ℕ) (rank : ℕ) (accepted-rank : jobEntriesRefusal b rank ≡ 0) where
-  bytes-accepted : Accepted b
-  bytes-accepted = accepted b (job-accepted b rank accepted-rank .bytes)
+  bytes-accepted : AcceptedTable b
+  bytes-accepted = accepted-table b (job-accepted b rank accepted-rank .bytes)
 
   abbrev first : ℕ
   first = smallerEntries b rank (entryCount b)

@@ -33,9 +33,9 @@ pub extern "C" fn vongselik_parts_inherited_rank<'a>(
     rank: u8,
     inherited: &mut u8,
 ) -> u8
-    ensures number { λ r. ⌜ r ≡ rankReply (Q.inheritedRank (stateOf processors jobs objects (now («processor_of» .entry)) (now («may_read» .entry)) (now («may_write» .entry))
+    ensures number { λ r. ⌜ r ≡ rankReply (Q.askInheritedRank (stateOf processors jobs objects (now («processor_of» .entry)) (now («may_read» .entry)) (now («may_write» .entry))
         active unlocked (now (readers .entry)) (now (writers .entry)) (now (request .entry))) rank) .refusal ⌝ }
-    ensures inherited { λ _. ⌜ now (inherited .exit) ≡ value (rankReply (Q.inheritedRank (stateOf processors jobs objects (now («processor_of» .entry)) (now («may_read» .entry)) (now («may_write» .entry))
+    ensures inherited { λ _. ⌜ now (inherited .exit) ≡ value (rankReply (Q.askInheritedRank (stateOf processors jobs objects (now («processor_of» .entry)) (now («may_read» .entry)) (now («may_write» .entry))
         active unlocked (now (readers .entry)) (now (writers .entry)) (now (request .entry))) rank)) 0 (now (inherited .entry)) ⌝ }
 {
     let answer = ask_inherited_rank(
@@ -79,11 +79,11 @@ pub extern "C" fn vongselik_parts_named_lock<'a>(
     holder: &mut u8,
     object: &mut u8,
 ) -> u8
-    ensures number { λ r. ⌜ r ≡ namedReply (Q.namedLock (stateOf processors jobs objects (now («processor_of» .entry)) (now («may_read» .entry)) (now («may_write» .entry))
+    ensures number { λ r. ⌜ r ≡ namedReply (Q.askNamedLock (stateOf processors jobs objects (now («processor_of» .entry)) (now («may_read» .entry)) (now («may_write» .entry))
         active unlocked (now (readers .entry)) (now (writers .entry)) (now (request .entry))) rank) .refusal ⌝ }
-    ensures holder { λ _. ⌜ now (holder .exit) ≡ value (namedReply (Q.namedLock (stateOf processors jobs objects (now («processor_of» .entry)) (now («may_read» .entry)) (now («may_write» .entry))
+    ensures holder { λ _. ⌜ now (holder .exit) ≡ value (namedReply (Q.askNamedLock (stateOf processors jobs objects (now («processor_of» .entry)) (now («may_read» .entry)) (now («may_write» .entry))
         active unlocked (now (readers .entry)) (now (writers .entry)) (now (request .entry))) rank)) 0 (now (holder .entry)) ⌝ }
-    ensures object { λ _. ⌜ now (object .exit) ≡ value (namedReply (Q.namedLock (stateOf processors jobs objects (now («processor_of» .entry)) (now («may_read» .entry)) (now («may_write» .entry))
+    ensures object { λ _. ⌜ now (object .exit) ≡ value (namedReply (Q.askNamedLock (stateOf processors jobs objects (now («processor_of» .entry)) (now («may_read» .entry)) (now («may_write» .entry))
         active unlocked (now (readers .entry)) (now (writers .entry)) (now (request .entry))) rank)) 1 (now (object .entry)) ⌝ }
 {
     let answer = ask_named_lock(
@@ -131,11 +131,11 @@ pub extern "C" fn vongselik_parts_ceilings<'a>(
     write_ceiling: &mut u16,
     absolute_ceiling: &mut u16,
 ) -> u8
-    ensures number { λ r. ⌜ r ≡ ceilingsReply (Q.ceilings (stateOf processors jobs objects (now («processor_of» .entry)) (now («may_read» .entry)) (now («may_write» .entry))
+    ensures number { λ r. ⌜ r ≡ ceilingsReply (Q.askCeilings (stateOf processors jobs objects (now («processor_of» .entry)) (now («may_read» .entry)) (now («may_write» .entry))
         active unlocked (now (readers .entry)) (now (writers .entry)) (now (request .entry))) object) .refusal ⌝ }
-    ensures write { λ _. ⌜ now («write_ceiling» .exit) ≡ value (ceilingsReply (Q.ceilings (stateOf processors jobs objects (now («processor_of» .entry)) (now («may_read» .entry)) (now («may_write» .entry))
+    ensures write { λ _. ⌜ now («write_ceiling» .exit) ≡ value (ceilingsReply (Q.askCeilings (stateOf processors jobs objects (now («processor_of» .entry)) (now («may_read» .entry)) (now («may_write» .entry))
         active unlocked (now (readers .entry)) (now (writers .entry)) (now (request .entry))) object)) 0 (now («write_ceiling» .entry)) ⌝ }
-    ensures absolute { λ _. ⌜ now («absolute_ceiling» .exit) ≡ value (ceilingsReply (Q.ceilings (stateOf processors jobs objects (now («processor_of» .entry)) (now («may_read» .entry)) (now («may_write» .entry))
+    ensures absolute { λ _. ⌜ now («absolute_ceiling» .exit) ≡ value (ceilingsReply (Q.askCeilings (stateOf processors jobs objects (now («processor_of» .entry)) (now («may_read» .entry)) (now («may_write» .entry))
         active unlocked (now (readers .entry)) (now (writers .entry)) (now (request .entry))) object)) 1 (now («absolute_ceiling» .entry)) ⌝ }
 {
     let answer = ask_ceilings(
@@ -179,9 +179,9 @@ pub extern "C" fn vongselik_parts_running<'a>(
     processor: u8,
     rank: &mut u8,
 ) -> u8
-    ensures number { λ r. ⌜ r ≡ rankReply (Q.running (stateOf processors jobs objects (now («processor_of» .entry)) (now («may_read» .entry)) (now («may_write» .entry))
+    ensures number { λ r. ⌜ r ≡ rankReply (Q.askRunning (stateOf processors jobs objects (now («processor_of» .entry)) (now («may_read» .entry)) (now («may_write» .entry))
         active unlocked (now (readers .entry)) (now (writers .entry)) (now (request .entry))) processor) .refusal ⌝ }
-    ensures rank { λ _. ⌜ now (rank .exit) ≡ value (rankReply (Q.running (stateOf processors jobs objects (now («processor_of» .entry)) (now («may_read» .entry)) (now («may_write» .entry))
+    ensures rank { λ _. ⌜ now (rank .exit) ≡ value (rankReply (Q.askRunning (stateOf processors jobs objects (now («processor_of» .entry)) (now («may_read» .entry)) (now («may_write» .entry))
         active unlocked (now (readers .entry)) (now (writers .entry)) (now (request .entry))) processor)) 0 (now (rank .entry)) ⌝ }
 {
     let answer = ask_running(

@@ -63,7 +63,7 @@ loop-again : tie.Need-loop-again Inv-loop μ-loop
 loop-again c =
     let asked = c .before .before .before .before .before .before .before in
     let events : List ℕ = now (asked .before .before .before .before .before .args .events) in
-    let outcome = c .before .before .event .ensures in
+    let outcome = c .before .before .event .ensures .0 in
     let number = c .pack .ensures .0 ∙ ap (λ (o : Outcome). packed (o .answer)) outcome in (
       omega arith,
       asked .loop .inv .1

@@ -7,7 +7,7 @@ use native.Mathlib.Omega.{arith}
 use lib.ListN.{getD}
 use Rattle.basics.specs.Arrays.{at, at-index}
 use Rattle.ranks.specs.Ranks.{limit}
-use Rattle.state.specs.State.{mostObjects, stateOf, modeIn, objectIn, grant}
+use Rattle.state.specs.State.{mostObjects, stateOf, modeOfRequest, objectOfRequest, grant}
 use Rattle.rule.specs.Granting.{wakeable}
 use Rattle.rule.specs.Parts.{waitsState, wakeable-parts}
 use Rattle.events.specs.declared.Answer.the-variants.{Done}
@@ -22,7 +22,7 @@ use Rattle.events.proofs.wake.Tie as tie
 pub record Found (request : ℕ) (rank : ℕ) : Type 0 where
   pub first : 1 ≤ rank
   pub last : rank ≤ limit
-  pub object : (1 ≤ objectIn request) × (objectIn request ≤ mostObjects)
+  pub object : (1 ≤ objectOfRequest request) × (objectOfRequest request ≤ mostObjects)
 
 found : (c : tie.Then1) → let a = c .before .before .before .before .before .args in Found (at (now (a .request)) (c .before .wakeable .result)) (c .before .wakeable .result)
 found c =
@@ -55,16 +55,16 @@ mul-asked c = search needs
 element-copy-out-asked : tie.Need-element-copy-out-asked
 element-copy-out-asked c = let f = found (c) in omega (arith, f .first, f .last)
 
-mode-in-requires : tie.Need-mode-in-requires
-mode-in-requires c κs = search needs
+mode-of-request-requires : tie.Need-mode-of-request-requires
+mode-of-request-requires c κs = search needs
 
-object-in-requires : tie.Need-object-in-requires
-object-in-requires c κs = search needs
+object-of-request-requires : tie.Need-object-of-request-requires
+object-of-request-requires c κs = search needs
 
 grant-requires : tie.Need-grant-requires
 grant-requires c κs =
     let f = found ((c .before .before .before .before .before .before)) in
-    let e = c .object-in .ensures ∙ ap objectIn (asked ((c .before .before .before .before .before .before))) in
+    let e = c .object-of-request .ensures ∙ ap objectOfRequest (asked ((c .before .before .before .before .before .before))) in
     (f .first, f .last, subst (λ (o : ℕ). 1 ≤ o) (sym e) (f .object .0), subst (λ (o : ℕ). o ≤ mostObjects) (sym e) (f .object .1))
 
 returns : tie.Need-returns
@@ -72,8 +72,8 @@ unfolding grant
 returns c =
     let b = c .before .before .before .before .before .before .before .before .before .before .before .before .args in
     let r = c .before .before .before .before .before .before .before .before .wakeable .result in
-    let m = c .before .before .mode-in .ensures ∙ ap modeIn (asked ((c .before .before .before .before .before .before .before))) in
-    let o = c .before .object-in .ensures ∙ ap objectIn (asked ((c .before .before .before .before .before .before .before))) in
+    let m = c .before .before .mode-of-request .ensures ∙ ap modeOfRequest (asked ((c .before .before .before .before .before .before .before))) in
+    let o = c .before .object-of-request .ensures ∙ ap objectOfRequest (asked ((c .before .before .before .before .before .before .before))) in
     λ p a u ps.
     let s = stateOf p (b .jobs) (b .objects) ps (now (b .may-read)) (now (b .may-write)) a u (now (b .readers)) (now (b .writers)) (now (b .request)) in
     (λ i. outcome (Done r) (stateOf p (b .jobs) (b .objects) ps (now (b .may-read)) (now (b .may-write)) a u (c .grant .ensures .0 i) (c .grant .ensures .1 i) (c .grant .ensures .2 i)))
@@ -97,8 +97,8 @@ wake-spec =
     cast-asked
     mul-asked
     element-copy-out-asked
-    mode-in-requires
-    object-in-requires
+    mode-of-request-requires
+    object-of-request-requires
     grant-requires
     returns
     returns-2)

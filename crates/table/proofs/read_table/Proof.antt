@@ -3,7 +3,7 @@
 use mathlib.Core.Path.{sym, _∙_}
 use denote.Ref.{now}
 use borrow.Author.Tests.{eq-eqb, ne-eqb}
-use Rattle.table_bytes.specs.Accepted.{accepted}
+use Rattle.table_bytes.specs.AcceptedTable.{accepted-table}
 use Rattle.table_bytes.specs.Refusals.{tableRefusal}
 use Rattle.table.specs.Reading.{readTable}
 use borrow.Author.Needs.{needs}
@@ -24,7 +24,7 @@ returns c =
     simp (ne-eqb (tableRefusal b) 0 (λ e. c .before .if1 .taken (h ∙ e))) (λ i. record { refusal = h i; used = 0; state = c .zero-state .ensures i })
 
 table-length-requires : tie.Need-table-length-requires
-table-length-requires c κs = accepted (now (c .before .before .before .args .bytes)) (sym (c .before .table-refusal .ensures) ∙ c .if1 .left) .start-within
+table-length-requires c κs = accepted-table (now (c .before .before .before .args .bytes)) (sym (c .before .table-refusal .ensures) ∙ c .if1 .left) .start-within
 
 table-state-requires : tie.Need-table-state-requires
 table-state-requires c κs = sym (c .before .before .table-refusal .ensures) ∙ c .before .if1 .left

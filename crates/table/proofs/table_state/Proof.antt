@@ -5,7 +5,7 @@ use mathlib.Core.Path.{_≡_, _∙_}
 use mathlib.Core.List.{List}
 use denote.Ref.{now}
 use native.Mathlib.Omega.{arith}
-use Rattle.table_bytes.specs.Accepted.{accepted}
+use Rattle.table_bytes.specs.AcceptedTable.{accepted-table}
 use Rattle.state.specs.declared.State.{State}
 use Rattle.state.specs.State.{read, write, freshState}
 use Rattle.table_bytes.specs.Bytes.{processorsIn, jobsIn, objectsIn, entryCount}
@@ -26,13 +26,13 @@ declared-requires : tie.Need-declared-requires
 declared-requires c κs = search needs
 
 shared-slice-read-fresh-state : tie.Need-shared-slice-read-fresh-state
-shared-slice-read-fresh-state c = let a = accepted (now (c .before .before .before .before .before .before .args .bytes)) (c .before .before .before .before .before .before .pre) in omega arith
+shared-slice-read-fresh-state c = let a = accepted-table (now (c .before .before .before .before .before .before .args .bytes)) (c .before .before .before .before .before .before .pre) in omega arith
 
 shared-slice-read-fresh-state-2 : tie.Need-shared-slice-read-fresh-state-2
-shared-slice-read-fresh-state-2 c = let a = accepted (now (c .before .before .before .before .before .before .before .args .bytes)) (c .before .before .before .before .before .before .before .pre) in omega arith
+shared-slice-read-fresh-state-2 c = let a = accepted-table (now (c .before .before .before .before .before .before .before .args .bytes)) (c .before .before .before .before .before .before .before .pre) in omega arith
 
 shared-slice-read-fresh-state-3 : tie.Need-shared-slice-read-fresh-state-3
-shared-slice-read-fresh-state-3 c = let a = accepted (now (c .before .before .before .before .before .before .before .before .args .bytes)) (c .before .before .before .before .before .before .before .before .pre) in omega arith
+shared-slice-read-fresh-state-3 c = let a = accepted-table (now (c .before .before .before .before .before .before .before .before .args .bytes)) (c .before .before .before .before .before .before .before .before .pre) in omega arith
 
 fresh-state-requires : tie.Need-fresh-state-requires
 fresh-state-requires c κs = search needs

@@ -38,7 +38,7 @@ object-refusal-requires : tie.Need-object-refusal-requires
 object-refusal-requires c κs = search needs
 
 returns : tie.Need-returns
-unfolding Q.ceilings
+unfolding Q.askCeilings
 returns c =
     let s = whole (c .before .before .before) in
     let x = c .before .before .before .args .object in
@@ -60,7 +60,7 @@ ceiling-requires-2 : tie.Need-ceiling-requires-2
 ceiling-requires-2 c κs = search needs
 
 returns-2 : tie.Need-returns-2
-unfolding Q.ceilings
+unfolding Q.askCeilings
 returns-2 c =
     let s = whole (c .before .before .before .before .before .before .before .before) in
     let o = c .before .before .before .before .before .before .before .before .args .object in

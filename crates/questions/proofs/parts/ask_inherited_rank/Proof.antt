@@ -37,7 +37,7 @@ job-refusal-requires : tie.Need-job-refusal-requires
 job-refusal-requires c κs = λ w. asking (whole (c .before)) (sym (c .fits2 .ensures) ∙ w) .jobs-fit
 
 returns : tie.Need-returns
-unfolding Q.inheritedRank
+unfolding Q.askInheritedRank
 returns c =
     let s = whole (c .before .before .before) in
     let x = c .before .before .before .args .rank in
@@ -49,7 +49,7 @@ inherited-rank-requires c κs =
     (b .0 .jobs-fit, b .0 .objects-fit, b .1 .0)
 
 returns-2 : tie.Need-returns-2
-unfolding Q.inheritedRank
+unfolding Q.askInheritedRank
 returns-2 c =
     let s = whole (c .before .before .before .before) in
     let r = c .before .before .before .before .args .rank in

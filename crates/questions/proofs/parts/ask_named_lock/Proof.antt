@@ -44,7 +44,7 @@ job-refusal-requires : tie.Need-job-refusal-requires
 job-refusal-requires c κs = λ w. asking (whole (c .before)) (sym (c .fits2 .ensures) ∙ w) .jobs-fit
 
 returns : tie.Need-returns
-unfolding Q.namedLock
+unfolding Q.askNamedLock
 returns c =
     let s = whole (c .before .before .before) in
     let x = c .before .before .before .args .rank in
@@ -75,7 +75,7 @@ key-object-requires : tie.Need-key-object-requires
 key-object-requires c κs = search needs
 
 returns-2 : tie.Need-returns-2
-unfolding Q.namedLock
+unfolding Q.askNamedLock
 returns-2 c =
     let s = whole (c .before .before .before .before .before .before .before) in
     let r = c .before .before .before .before .before .before .before .args .rank in

@@ -36,7 +36,7 @@ processor-refusal-requires : tie.Need-processor-refusal-requires
 processor-refusal-requires c κs = search needs
 
 returns : tie.Need-returns
-unfolding Q.running
+unfolding Q.askRunning
 returns c =
     let s = whole (c .before .before .before) in
     let x = c .before .before .before .args .processor in
@@ -48,7 +48,7 @@ running-rank-requires c κs =
     (b .jobs-fit, b .objects-fit)
 
 returns-2 : tie.Need-returns-2
-unfolding Q.running
+unfolding Q.askRunning
 returns-2 c =
     let s = whole (c .before .before .before .before) in
     let p = c .before .before .before .before .args .processor in

@@ -7,7 +7,7 @@ use borrow.Author.Tests.{not-true, not-false}
 use Rattle.basics.specs.Loops.{every-false}
 use Rattle.basics.specs.Choice.{and-true}
 use Rattle.state.specs.declared.State.{State}
-use Rattle.state.specs.State.{modeIn, objectIn, requestOf}
+use Rattle.state.specs.State.{modeOfRequest, objectOfRequest, requestOf}
 use Rattle.state.specs.WellFormed.{mayAwait}
 use Rattle.state.proofs.WaitLaws.{wait-none, wait-asks}
 use Prim.Native.Nat.{ℕ, suc, _≤_, _-_}
@@ -40,7 +40,7 @@ found c =
     let t = c .before .before .before .before in
     let q = requestOf (whole (t .before)) (suc (t .loop .rank)) in
     wait-asks (whole (t .before)) (suc (t .loop .rank)) (c .before .if1 .taken)
-    ∙ ap (λ (r : ℕ). mayAwait (whole (t .before)) (modeIn q) r (objectIn q)) (sym (add-one (t .loop .rank)))
+    ∙ ap (λ (r : ℕ). mayAwait (whole (t .before)) (modeOfRequest q) r (objectOfRequest q)) (sym (add-one (t .loop .rank)))
     ∙ sym (c .may-await .ensures)
 
 loop-holds : tie.Need-loop-holds Inv-loop μ-loop

@@ -4,27 +4,27 @@
 use Prim.Native.Nat.{ℕ, _-_, _≤_, _<_}
 use native.Mathlib.Omega.{arith}
 use denote.Ref.{now}
-use Rattle.table_bytes.specs.Accepted.{accepted}
-use Rattle.table_bytes.specs.Bytes.{rankIn}
+use Rattle.table_bytes.specs.AcceptedTable.{accepted-table}
+use Rattle.table_bytes.specs.Bytes.{entryRank}
 use borrow.Author.Count.{below-more}
 use borrow.Author.Needs.{needs}
 use Rattle.table.proofs.job.first_entry_from.Statement.{statement}
 use Rattle.table.proofs.job.first_entry_from.Tie as tie
 
 abbrev Inv-loop : tie.InvT-loop
-Inv-loop bytes rank start count entry₀ entry = (start ≤ entry) × (entry ≤ count) × ((k : ℕ) → k < entry → start ≤ k → rankIn bytes k < rank)
+Inv-loop bytes rank start count entry₀ entry = (start ≤ entry) × (entry ≤ count) × ((k : ℕ) → k < entry → start ≤ k → entryRank bytes k < rank)
 
 abbrev μ-loop : tie.MeasureT-loop
 μ-loop bytes rank start count entry₀ entry = count - entry
 
 entry-count-requires : tie.Need-entry-count-requires Inv-loop μ-loop
-entry-count-requires c κs = accepted (now (c .before .args .bytes)) (c .before .pre .0) .start-within
+entry-count-requires c κs = accepted-table (now (c .before .args .bytes)) (c .before .pre .0) .start-within
 
 loop-holds : tie.Need-loop-holds Inv-loop μ-loop
 loop-holds c = (omega arith, omega arith, λ k h l. absurd (omega arith))
 
 rank-at-requires : tie.Need-rank-at-requires Inv-loop μ-loop
-rank-at-requires c κs = let a = accepted (now (c .before .before .before .before .args .bytes)) (c .before .before .before .before .pre .0) in omega arith
+rank-at-requires c κs = let a = accepted-table (now (c .before .before .before .before .args .bytes)) (c .before .before .before .before .pre .0) in omega arith
 
 returns : tie.Need-returns Inv-loop μ-loop
 returns c = record { low = c .before .before .before .loop .inv .0; high = omega arith; before = c .before .before .before .loop .inv .2; there = λ l. omega arith }

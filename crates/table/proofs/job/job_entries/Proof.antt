@@ -7,7 +7,7 @@ use native.Mathlib.Omega.{arith}
 use denote.Ref.{now}
 use borrow.Author.Tests.{eq-eqb, ne-eqb}
 use lib.ListN.{take, drop}
-use Rattle.table_bytes.specs.Accepted.{accepted}
+use Rattle.table_bytes.specs.AcceptedTable.{accepted-table}
 use Rattle.table.specs.JobEntries.{jobEntriesRefusal, jobEntries}
 use Rattle.table.specs.JobPart.{job-accepted, entries-together}
 use borrow.Author.Needs.{needs}
@@ -36,7 +36,7 @@ add-first-entry-from : tie.Need-add-first-entry-from
 add-first-entry-from c =
     let b = now (c .before .before .before .before .args .bytes) in
     let j = job-accepted b (c .before .before .before .before .args .rank) (sym (c .before .before .job-entries-refusal .ensures) ∙ c .before .if1 .left) in
-    let a = accepted b (j .bytes) in
+    let a = accepted-table b (j .bytes) in
     omega arith
 
 first-entry-from-requires-2 : tie.Need-first-entry-from-requires-2
@@ -49,14 +49,14 @@ entry-start-requires : tie.Need-entry-start-requires
 entry-start-requires c κs =
     let b = now (c .before .before .before .before .before .args .bytes) in
     let j = job-accepted b (c .before .before .before .before .before .args .rank) (sym (c .before .before .before .job-entries-refusal .ensures) ∙ c .before .before .if1 .left) in
-    let a = accepted b (j .bytes) in
+    let a = accepted-table b (j .bytes) in
     (a .long, omega arith)
 
 entry-start-requires-2 : tie.Need-entry-start-requires-2
 entry-start-requires-2 c κs =
     let b = now (c .before .before .before .before .before .before .args .bytes) in
     let j = job-accepted b (c .before .before .before .before .before .before .args .rank) (sym (c .before .before .before .before .job-entries-refusal .ensures) ∙ c .before .before .before .if1 .left) in
-    let a = accepted b (j .bytes) in
+    let a = accepted-table b (j .bytes) in
     (a .long, omega arith)
 
 sub-result : tie.Need-sub-result
@@ -69,7 +69,7 @@ part-result-end : tie.Need-part-result-end
 part-result-end c =
     let b = now (c .before .before .before .before .before .before .before .args .bytes) in
     let j = job-accepted b (c .before .before .before .before .before .before .before .args .rank) (sym (c .before .before .before .before .before .job-entries-refusal .ensures) ∙ c .before .before .before .before .if1 .left) in
-    let a = accepted b (j .bytes) in
+    let a = accepted-table b (j .bytes) in
     omega arith
 
 returns-2 : tie.Need-returns-2
@@ -77,7 +77,7 @@ unfolding jobEntries
 returns-2 c =
     let b = now (c .before .before .before .before .before .before .before .before .args .bytes) in
     let j = job-accepted b (c .before .before .before .before .before .before .before .before .args .rank) (sym (c .before .before .before .before .before .before .job-entries-refusal .ensures) ∙ c .before .before .before .before .before .if1 .left) in
-    let a = accepted b (j .bytes) in
+    let a = accepted-table b (j .bytes) in
     let r = c .before .before .before .before .before .before .before .before .args .rank in
     let first = c .before .before .before .before .first-entry-from .result in
     let next = c .before .before .before .first-entry-from2 .result in

@@ -5,7 +5,7 @@ use denote.Ref.{now}
 use native.Mathlib.Omega.{arith}
 use borrow.Author.Tests.{not-true, not-false}
 use Rattle.table_bytes.specs.Refusals.{tableRefusal}
-use Rattle.table_bytes.specs.Accepted.{accepted}
+use Rattle.table_bytes.specs.AcceptedTable.{accepted-table}
 use Rattle.basics.specs.Choice.{or-else-first}
 use Rattle.table.specs.JobEntries.{jobEntriesRefusal}
 use borrow.Author.Needs.{needs}
@@ -23,7 +23,7 @@ returns c =
     h ∙ sym (or-else-first (tableRefusal b) _ (λ e. c .if1 .taken (h ∙ e)))
 
 shared-slice-read-within : tie.Need-shared-slice-read-within
-shared-slice-read-within c = let a = accepted (now (c .before .before .before .before .args .bytes)) (sym (c .before .before .table-refusal .ensures) ∙ c .before .if1 .left) in omega arith
+shared-slice-read-within c = let a = accepted-table (now (c .before .before .before .before .args .bytes)) (sym (c .before .before .table-refusal .ensures) ∙ c .before .if1 .left) in omega arith
 
 within-requires : tie.Need-within-requires
 within-requires c κs = search needs

@@ -6,7 +6,7 @@ use Prim.Native.Nat.{ℕ, _+_, _-_, _≤_}
 use mathlib.Core.List.{List}
 use native.Mathlib.Omega.{arith}
 use denote.Ref.{now}
-use Rattle.table_bytes.specs.Accepted.{accepted}
+use Rattle.table_bytes.specs.AcceptedTable.{accepted-table}
 use Rattle.table_bytes.specs.Bytes.{byte, entryCount, entryStart}
 use native.Mathlib.Numerals.{add-one}
 use Rattle.state.specs.State.{read, write}
@@ -29,41 +29,41 @@ abbrev μ-loop : tie.MeasureT-loop
 μ-loop bytes count may-read₀ may-write₀ entry₀ may-read may-write entry = count - entry
 
 entry-count-requires : tie.Need-entry-count-requires Inv-loop μ-loop
-entry-count-requires c κs = accepted (now (c .before .args .bytes)) (c .before .pre) .start-within
+entry-count-requires c κs = accepted-table (now (c .before .args .bytes)) (c .before .pre) .start-within
 
 loop-holds : tie.Need-loop-holds Inv-loop μ-loop
 unfolding declaredIn
 loop-holds c = (omega arith, refl, refl)
 
 entry-start-requires : tie.Need-entry-start-requires Inv-loop μ-loop
-entry-start-requires c κs = let a = accepted (now (c .before .before .before .before .args .bytes)) (c .before .before .before .before .pre) in omega arith
+entry-start-requires c κs = let a = accepted-table (now (c .before .before .before .before .args .bytes)) (c .before .before .before .before .pre) in omega arith
 
 shared-slice-read-rank : tie.Need-shared-slice-read-rank Inv-loop μ-loop
-shared-slice-read-rank c = let a = accepted (now (c .before .before .before .before .before .before .args .bytes)) (c .before .before .before .before .before .before .pre) in omega arith
+shared-slice-read-rank c = let a = accepted-table (now (c .before .before .before .before .before .before .args .bytes)) (c .before .before .before .before .before .before .pre) in omega arith
 
 add-object : tie.Need-add-object Inv-loop μ-loop
 add-object c = search needs
 
 shared-slice-read-object : tie.Need-shared-slice-read-object Inv-loop μ-loop
-shared-slice-read-object c = let a = accepted (now (c .before .before .before .before .before .before .before .args .bytes)) (c .before .before .before .before .before .before .before .pre) in omega arith
+shared-slice-read-object c = let a = accepted-table (now (c .before .before .before .before .before .before .before .args .bytes)) (c .before .before .before .before .before .before .before .pre) in omega arith
 
 add-mode : tie.Need-add-mode Inv-loop μ-loop
 add-mode c = search needs
 
 shared-slice-read-mode : tie.Need-shared-slice-read-mode Inv-loop μ-loop
-shared-slice-read-mode c = let a = accepted (now (c .before .before .before .before .before .before .before .before .args .bytes)) (c .before .before .before .before .before .before .before .before .pre) in omega arith
+shared-slice-read-mode c = let a = accepted-table (now (c .before .before .before .before .before .before .before .before .args .bytes)) (c .before .before .before .before .before .before .before .before .pre) in omega arith
 
 add-right-requires : tie.Need-add-right-requires Inv-loop μ-loop
 add-right-requires c κs =
     let b = now (c .before .before .before .before .before .before .before .before .before .args .bytes) in
-    let a = accepted b (c .before .before .before .before .before .before .before .before .before .pre) in
+    let a = accepted-table b (c .before .before .before .before .before .before .before .before .before .pre) in
     let e = a .entry (c .before .before .before .before .before .before .loop .entry) (omega arith) in
     rw (c .before .before .before .before .entry-start .ensures .0) ((e .rank-low, omega arith), (e .object-low, omega arith))
 
 add-right-requires-2 : tie.Need-add-right-requires-2 Inv-loop μ-loop
 add-right-requires-2 c κs =
     let b = now (c .before .before .before .before .before .before .before .before .before .before .before .args .bytes) in
-    let a = accepted b (c .before .before .before .before .before .before .before .before .before .before .before .pre) in
+    let a = accepted-table b (c .before .before .before .before .before .before .before .before .before .before .before .pre) in
     let e = a .entry (c .before .before .before .before .before .before .before .before .loop .entry) (omega arith) in
     rw (c .before .before .before .before .before .before .entry-start .ensures .0) ((e .rank-low, omega arith), (e .object-low, omega arith))
 

@@ -5,7 +5,7 @@ use mathlib.Core.Path.{_≡_, refl, sym, ap, _∙_}
 use Prim.Native.Nat.{ℕ, _+_, _-_, _≤_, _<_}
 use native.Mathlib.Omega.{arith}
 use denote.Ref.{now}
-use Rattle.table_bytes.specs.Accepted.{accepted}
+use Rattle.table_bytes.specs.AcceptedTable.{accepted-table}
 use mathlib.Core.List.{List, _++_}
 use lib.ListN.{length, getD, take, drop, set, length-drop}
 use lib.Seq.{getD-drop}
@@ -25,7 +25,7 @@ abbrev μ-loop : tie.MeasureT-loop
 μ-loop bytes jobs processors₀ i₀ processors i = jobs - i
 
 shared-slice-read-wide : tie.Need-shared-slice-read-wide Inv-loop μ-loop
-shared-slice-read-wide c = let a = accepted (now (c .before .before .args .bytes)) (c .before .before .pre) in omega arith
+shared-slice-read-wide c = let a = accepted-table (now (c .before .before .args .bytes)) (c .before .before .pre) in omega arith
 
 wide-requires : tie.Need-wide-requires Inv-loop μ-loop
 wide-requires c κs = search needs
@@ -37,10 +37,10 @@ add-processors : tie.Need-add-processors Inv-loop μ-loop
 add-processors c = search needs
 
 shared-slice-read-processors : tie.Need-shared-slice-read-processors Inv-loop μ-loop
-shared-slice-read-processors c = let a = accepted (now (c .before .before .before .before .before .before .args .bytes)) (c .before .before .before .before .before .before .pre) in omega arith
+shared-slice-read-processors c = let a = accepted-table (now (c .before .before .before .before .before .before .args .bytes)) (c .before .before .before .before .before .before .pre) in omega arith
 
 array-write-processors : tie.Need-array-write-processors Inv-loop μ-loop
-array-write-processors c = let a = accepted (now (c .before .before .before .before .before .before .args .bytes)) (c .before .before .before .before .before .before .pre) in omega arith
+array-write-processors c = let a = accepted-table (now (c .before .before .before .before .before .before .args .bytes)) (c .before .before .before .before .before .before .pre) in omega arith
 
 add-i : tie.Need-add-i Inv-loop μ-loop
 add-i c = search needs
@@ -52,7 +52,7 @@ loop-again : tie.Need-loop-again Inv-loop μ-loop
 loop-again c =
     let b = now (c .before .before .before .before .before .before .args .bytes) in
     let i = c .before .before .loop .i in
-    let a = accepted b (c .before .before .before .before .before .before .pre) in
+    let a = accepted-table b (c .before .before .before .before .before .before .pre) in
     let l : i < length (drop 8 b) = simp length-drop (omega arith) in (
       omega arith,
       ap (λ (x : List ℕ). set x i (getD b (8 + i) 0)) (c .before .before .loop .inv .1)

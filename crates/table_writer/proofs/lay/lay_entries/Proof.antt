@@ -8,7 +8,7 @@ use borrow.Author.Needs.{needs}
 use denote.Ref.{now}
 use lib.ListN.{length}
 use Rattle.basics.specs.Loops.{joined}
-use Rattle.table_writer.specs.Laying.{modesIn, entriesOfRank, entriesOfRanks, laid}
+use Rattle.table_writer.specs.Laying.{declaredModes, entriesOfRank, entriesOfRanks, laid}
 use Rattle.table_writer.specs.EntryLaws.{ranks-more, ranks-more-length, ranks-grow}
 use Rattle.table_writer.proofs.LaidLaws.{laid-none, laid-turn}
 use Rattle.table_writer.proofs.lay.lay_entries.Statement.{statement}
@@ -16,8 +16,8 @@ use Rattle.table_writer.proofs.lay.lay_entries.Tie as tie
 
 abbrev Inv-loop : tie.InvT-loop
 Inv-loop buf₀ at reads writes jobs objects end₀ rank₀ buf end rank =
-    (rank ≤ jobs) × (end ≡ at + length (entriesOfRanks (modesIn reads writes) objects rank))
-    × (buf ≡ laid buf₀ at (entriesOfRanks (modesIn reads writes) objects rank)) × (length buf ≡ length buf₀)
+    (rank ≤ jobs) × (end ≡ at + length (entriesOfRanks (declaredModes reads writes) objects rank))
+    × (buf ≡ laid buf₀ at (entriesOfRanks (declaredModes reads writes) objects rank)) × (length buf ≡ length buf₀)
 
 abbrev μ-loop : tie.MeasureT-loop
 μ-loop buf₀ at reads writes jobs objects end₀ rank₀ buf end rank = jobs - rank
@@ -32,7 +32,7 @@ add-rank c = search needs
 lay-rank-requires : tie.Need-lay-rank-requires Inv-loop μ-loop
 lay-rank-requires c κs =
     let start = c .before .before .before .before in
-    let modes = modesIn (now (start .args .reads)) (now (start .args .writes)) in
+    let modes = declaredModes (now (start .args .reads)) (now (start .args .writes)) in
     let k = c .before .before .loop .rank in
     let long = ranks-more-length modes (start .args .objects) k in
     let room = ranks-grow modes (start .args .objects) (k + 1) (start .args .jobs) (omega arith) in
@@ -45,7 +45,7 @@ loop-again : tie.Need-loop-again Inv-loop μ-loop
 loop-again c =
     let start = c .before .before .before .before .before .before .before in
     let objects = start .args .objects in
-    let modes = modesIn (now (start .args .reads)) (now (start .args .writes)) in
+    let modes = declaredModes (now (start .args .reads)) (now (start .args .writes)) in
     let loop = c .before .before .before .before .before .loop in
     let k = loop .rank in
     let room = ranks-grow modes objects (k + 1) (start .args .jobs) (omega arith) in
@@ -62,7 +62,7 @@ returns : tie.Need-returns Inv-loop μ-loop
 returns c =
     let args = c .before .before .before .args in
     let done : c .before .loop .rank ≡ args .jobs = omega arith in
-    let entries = entriesOfRanks (modesIn (now (args .reads)) (now (args .writes))) (args .objects) in
+    let entries = entriesOfRanks (declaredModes (now (args .reads)) (now (args .writes))) (args .objects) in
     c .before .loop .inv .2 ∙ ap (λ (n : ℕ). laid (now (args .buf)) (args .at) (entries n)) done
 
 pub lay-entries-spec : {M : Type 1} → statement M

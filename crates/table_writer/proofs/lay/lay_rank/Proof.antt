@@ -12,7 +12,7 @@ use lib.ListN.{length}
 use Rattle.basics.specs.Loops.{joined}
 use Rattle.basics.specs.Arrays.{at}
 use Rattle.table_writer.specs.Writing.{entryBytes}
-use Rattle.table_writer.specs.Laying.{modesIn, entriesOfRank, laid}
+use Rattle.table_writer.specs.Laying.{declaredModes, entriesOfRank, laid}
 use Rattle.table_writer.specs.EntryLaws.{rank-more, rank-more-length, rank-grows}
 use Rattle.table_writer.proofs.LaidLaws.{laid-none, laid-turn}
 use Rattle.table_writer.proofs.lay.lay_rank.Statement.{statement}
@@ -20,8 +20,8 @@ use Rattle.table_writer.proofs.lay.lay_rank.Tie as tie
 
 abbrev Inv-loop : tie.InvT-loop
 Inv-loop buf₀ at reads writes rank objects end₀ object₀ buf end object =
-    (object ≤ objects) × (end ≡ at + length (entriesOfRank (modesIn reads writes) rank object))
-    × (buf ≡ laid buf₀ at (entriesOfRank (modesIn reads writes) rank object)) × (length buf ≡ length buf₀)
+    (object ≤ objects) × (end ≡ at + length (entriesOfRank (declaredModes reads writes) rank object))
+    × (buf ≡ laid buf₀ at (entriesOfRank (declaredModes reads writes) rank object)) × (length buf ≡ length buf₀)
 
 abbrev μ-loop : tie.MeasureT-loop
 μ-loop buf₀ at reads writes rank objects end₀ object₀ buf end object = objects - object
@@ -58,9 +58,9 @@ lay-entry-requires c κs =
     let rank = c .before .before .before .before .before .before .before .args .rank in
     let objects = c .before .before .before .before .before .before .before .args .objects in
     let k = c .before .before .before .before .before .loop .object in
-    let m : c .declared-mode .result ≡ modesIn reads writes rank (k + 1) = c .declared-mode .ensures ∙ rw add-one in
-    let long = rank-more-length (modesIn reads writes) rank k in
-    let room = rank-grows (modesIn reads writes) rank (k + 1) objects (omega arith) in
+    let m : c .declared-mode .result ≡ declaredModes reads writes rank (k + 1) = c .declared-mode .ensures ∙ rw add-one in
+    let long = rank-more-length (declaredModes reads writes) rank k in
+    let room = rank-grows (declaredModes reads writes) rank (k + 1) objects (omega arith) in
     rw m (omega arith)
 
 loop-less : tie.Need-loop-less Inv-loop μ-loop
@@ -74,7 +74,7 @@ loop-again c =
     let rank = start .args .rank in
     let loop = c .before .before .before .before .before .before .before .before .loop in
     let k = loop .object in
-    let modes = modesIn reads writes in
+    let modes = declaredModes reads writes in
     let result = c .before .before .before .declared-mode .result in
     let m : result ≡ modes rank (k + 1) = c .before .before .before .declared-mode .ensures ∙ rw add-one in
     let room = rank-grows modes rank (k + 1) (start .args .objects) (omega arith) in
@@ -92,7 +92,7 @@ returns : tie.Need-returns Inv-loop μ-loop
 returns c =
     let args = c .before .before .before .args in
     let done : c .before .loop .object ≡ args .objects = omega arith in
-    let entries = entriesOfRank (modesIn (now (args .reads)) (now (args .writes))) (args .rank) in (
+    let entries = entriesOfRank (declaredModes (now (args .reads)) (now (args .writes))) (args .rank) in (
       c .before .loop .inv .1 ∙ ap (λ (n : ℕ). args .at + length (entries n)) done,
       c .before .loop .inv .2 ∙ ap (λ (n : ℕ). laid (now (args .buf)) (args .at) (entries n)) done,
     )

@@ -8,7 +8,7 @@ use native.Mathlib.Omega.{arith}
 use lib.Dec.{ltb}
 use Rattle.basics.specs.Loops.{oneIf}
 use Rattle.table_bytes.specs.Bytes.{byte, word, entryCount, entryStart}
-use Rattle.table_bytes.specs.Accepted.{accepted}
+use Rattle.table_bytes.specs.AcceptedTable.{accepted-table}
 use Rattle.vongselik.specs.Entries.{smallerEntries, partStart, smaller-more, smaller-le}
 use borrow.Author.Needs.{needs}
 use Rattle.vongselik.proofs.entries.part_start.Statement.{statement}
@@ -24,7 +24,7 @@ counted : (c : tie.After-word-at Inv-loop μ-loop) → c .word-at .result ≡ en
 counted c = c .word-at .ensures .0 ∙ ap (λ (w : ℕ). word (now (c .before .before .before .before .args .bytes)) (8 + w)) (c .before .wide .ensures .0)
 
 shared-slice-read-wide : tie.Need-shared-slice-read-wide Inv-loop μ-loop
-shared-slice-read-wide c = let a = accepted (now (c .before .before .args .bytes)) (c .before .before .pre) in omega (arith, a .long)
+shared-slice-read-wide c = let a = accepted-table (now (c .before .before .args .bytes)) (c .before .before .pre) in omega (arith, a .long)
 
 wide-requires : tie.Need-wide-requires Inv-loop μ-loop
 wide-requires c κs = search needs
@@ -33,7 +33,7 @@ add-at : tie.Need-add-at Inv-loop μ-loop
 add-at c = search needs
 
 word-at-requires : tie.Need-word-at-requires Inv-loop μ-loop
-word-at-requires c κs = let a = accepted (now (c .before .before .before .args .bytes)) (c .before .before .before .pre) in omega (arith, a .start-within, c .wide .ensures .0)
+word-at-requires c κs = let a = accepted-table (now (c .before .before .before .args .bytes)) (c .before .before .before .pre) in omega (arith, a .start-within, c .wide .ensures .0)
 
 add-first : tie.Need-add-first Inv-loop μ-loop
 add-first c = search needs
@@ -52,7 +52,7 @@ add-entry-bytes : tie.Need-add-entry-bytes Inv-loop μ-loop
 add-entry-bytes c = search needs
 
 shared-slice-read-entry-bytes : tie.Need-shared-slice-read-entry-bytes Inv-loop μ-loop
-shared-slice-read-entry-bytes c = let a = accepted (now (c .before .before .before .before .before .before .before .args .bytes)) (c .before .before .before .before .before .before .before .pre) in omega (arith, a .table-within, c .before .before .before .before .wide .ensures .0, counted (c .before .before .before))
+shared-slice-read-entry-bytes c = let a = accepted-table (now (c .before .before .before .before .before .before .before .args .bytes)) (c .before .before .before .before .before .before .before .pre) in omega (arith, a .table-within, c .before .before .before .before .wide .ensures .0, counted (c .before .before .before))
 
 entry-bytes-requires : tie.Need-entry-bytes-requires Inv-loop μ-loop
 entry-bytes-requires c κs = search needs

@@ -1,13 +1,13 @@
--- `table_bytes::refusals::table_refusal` meets its contract: the first step that refuses decides, and each step is safe since those before it passed.
+-- `table_bytes::table_refusals::table_refusal` meets its contract: the first step that refuses decides, and each step is safe since those before it passed.
 -- Assumes nothing.
 use mathlib.Core.Path.{sym, _∙_}
 use denote.Ref.{now}
-use Rattle.table_bytes.specs.Refusals.{headerRefusal, lengthRefusal, processorRefusal, tableRefusal}
-use Rattle.table_bytes.specs.Accepted.{header-long, start-in, table-in}
+use Rattle.table_bytes.specs.Refusals.{headerRefusal, lengthRefusal, processorByteRefusal, tableRefusal}
+use Rattle.table_bytes.specs.AcceptedTable.{header-long, start-in, table-in}
 use Rattle.basics.specs.Choice.{or-else-first}
 use borrow.Author.Needs.{needs}
-use Rattle.table_bytes.proofs.refusals.table_refusal.Statement.{statement}
-use Rattle.table_bytes.proofs.refusals.table_refusal.Tie as tie
+use Rattle.table_bytes.proofs.table_refusals.table_refusal.Statement.{statement}
+use Rattle.table_bytes.proofs.table_refusals.table_refusal.Tie as tie
 
 header-refusal-requires : tie.Need-header-refusal-requires
 header-refusal-requires c κs = search needs
@@ -29,22 +29,22 @@ returns-2 c =
     let h = c .before .length-refusal .ensures in
     h ∙ sym (rw (sym (c .before .before .before .header-refusal .ensures) ∙ c .before .before .if1 .left) (or-else-first (lengthRefusal b) _ (λ e. c .if2 .taken (h ∙ e))))
 
-processor-refusal-requires : tie.Need-processor-refusal-requires
-processor-refusal-requires c κs = start-in (now (c .before .before .before .before .before .args .bytes)) (sym (c .before .length-refusal .ensures) ∙ c .if2 .left)
+processor-byte-refusal-requires : tie.Need-processor-byte-refusal-requires
+processor-byte-refusal-requires c κs = start-in (now (c .before .before .before .before .before .args .bytes)) (sym (c .before .length-refusal .ensures) ∙ c .if2 .left)
 
 returns-3 : tie.Need-returns-3
 unfolding tableRefusal
 returns-3 c =
     let b = now (c .before .before .before .before .before .before .before .args .bytes) in
-    let h = c .before .processor-refusal .ensures in
-    h ∙ sym (rw (sym (c .before .before .before .before .before .header-refusal .ensures) ∙ c .before .before .before .before .if1 .left, sym (c .before .before .before .length-refusal .ensures) ∙ c .before .before .if2 .left) (or-else-first (processorRefusal b) _ (λ e. c .if3 .taken (h ∙ e))))
+    let h = c .before .processor-byte-refusal .ensures in
+    h ∙ sym (rw (sym (c .before .before .before .before .before .header-refusal .ensures) ∙ c .before .before .before .before .if1 .left, sym (c .before .before .before .length-refusal .ensures) ∙ c .before .before .if2 .left) (or-else-first (processorByteRefusal b) _ (λ e. c .if3 .taken (h ∙ e))))
 
 entries-refusal-requires : tie.Need-entries-refusal-requires
 entries-refusal-requires c κs = table-in (now (c .before .before .before .before .before .before .before .args .bytes)) (sym (c .before .before .before .length-refusal .ensures) ∙ c .before .before .if2 .left)
 
 returns-4 : tie.Need-returns-4
 unfolding tableRefusal
-returns-4 c = c .entries-refusal .ensures ∙ sym (rw (sym (c .before .before .before .before .before .before .header-refusal .ensures) ∙ c .before .before .before .before .before .if1 .left, sym (c .before .before .before .before .length-refusal .ensures) ∙ c .before .before .before .if2 .left, sym (c .before .before .processor-refusal .ensures) ∙ c .before .if3 .left))
+returns-4 c = c .entries-refusal .ensures ∙ sym (rw (sym (c .before .before .before .before .before .before .header-refusal .ensures) ∙ c .before .before .before .before .before .if1 .left, sym (c .before .before .before .before .length-refusal .ensures) ∙ c .before .before .before .if2 .left, sym (c .before .before .processor-byte-refusal .ensures) ∙ c .before .if3 .left))
 
 pub table-refusal-spec : {M : Type 1} → statement M
 table-refusal-spec =
@@ -54,7 +54,7 @@ table-refusal-spec =
     returns
     length-refusal-requires
     returns-2
-    processor-refusal-requires
+    processor-byte-refusal-requires
     returns-3
     entries-refusal-requires
     returns-4)

@@ -13,7 +13,7 @@ use Rattle.state.specs.WellFormed.{wellFormed}
 use Rattle.state.specs.Facts.{RequestFacts}
 use Rattle.refusals.specs.Refusals.{isRequest, modeOf, objectAllowed, eventRefusal, refusal}
 
-pub record Accepted (s : State) (k r o : ℕ) : Type 0 where
+pub record AcceptedEvent (s : State) (k r o : ℕ) : Type 0 where
   pub kind : between 1 6 k ≡ true
   pub rank : (1 ≤ r) × (r ≤ s .jobs)
   pub object : objectAllowed s k o ≡ true
@@ -24,7 +24,7 @@ pub record Accepted (s : State) (k r o : ℕ) : Type 0 where
   pub not-16 : isRequest k && not (mayLock s (modeOf k) r o) ≡ false
   pub not-17 : isRequest k && holdsAlready s (modeOf k) r o ≡ false
 
-pub not-refused : (s : State) (k r o : ℕ) → refusal s k r o ≡ 0 → Accepted s k r o
+pub not-refused : (s : State) (k r o : ℕ) → refusal s k r o ≡ 0 → AcceptedEvent s k r o
 unfolding refusal eventRefusal
 not-refused s k r o e =
     let e8 = if-zero 7 (not (wellFormed s)) _ e in
@@ -68,12 +68,12 @@ request-facts s m r o mode object active not-unlocked right new =
       not-written = both .1;
     }
 
-pub read-facts : (s : State) (r o : ℕ) → Accepted s 2 r o → RequestFacts s read r o
+pub read-facts : (s : State) (r o : ℕ) → AcceptedEvent s 2 r o → RequestFacts s read r o
 read-facts s r o A =
     request-facts s read r o (inl refl) (A .object) (not-false (isActive s r) (A .not-13)) (A .not-15)
     (not-false (mayLock s read r o) (A .not-16)) (A .not-17)
 
-pub write-facts : (s : State) (r o : ℕ) → Accepted s 3 r o → RequestFacts s write r o
+pub write-facts : (s : State) (r o : ℕ) → AcceptedEvent s 3 r o → RequestFacts s write r o
 write-facts s r o A =
     request-facts s write r o (inr refl) (A .object) (not-false (isActive s r) (A .not-13)) (A .not-15)
     (not-false (mayLock s write r o) (A .not-16)) (A .not-17)

@@ -1,11 +1,11 @@
--- `table_bytes::refusals::entry_refusal` meets its contract, test by test.
+-- `table_bytes::table_refusals::entry_refusal` meets its contract, test by test.
 -- Assumes nothing.
 use mathlib.Core.Path.{sym, _∙_}
 use borrow.Author.Tests.{lt-ltb, le-ltb, not-true, not-false}
 use Rattle.table_bytes.specs.Refusals.{entryRefusal}
 use borrow.Author.Needs.{needs}
-use Rattle.table_bytes.proofs.refusals.entry_refusal.Statement.{statement}
-use Rattle.table_bytes.proofs.refusals.entry_refusal.Tie as tie
+use Rattle.table_bytes.proofs.table_refusals.entry_refusal.Statement.{statement}
+use Rattle.table_bytes.proofs.table_refusals.entry_refusal.Tie as tie
 
 fields-within-requires : tie.Need-fields-within-requires
 fields-within-requires c κs = search needs

@@ -1,4 +1,4 @@
--- `table_bytes::refusals::processor_refusal` meets its contract. The loop's invariant: none of the first `i` processor bytes is too large.
+-- `table_bytes::table_refusals::processor_byte_refusal` meets its contract. The loop's invariant: none of the first `i` processor bytes is too large.
 -- A turn adds the byte that its test passed; where the test fails, that byte is the first. The measure is how many bytes are left.
 -- Assumes nothing.
 use mathlib.Core.Path.{_≡_, refl, sym, ap, _∙_}
@@ -7,14 +7,14 @@ use native.Mathlib.Omega.{arith}
 use denote.Ref.{now}
 use borrow.Author.Tests.{lt-ltb, le-ltb}
 use Rattle.table_bytes.specs.Bytes.{jobsIn}
-use Rattle.table_bytes.specs.Refusals.{processorRefusalOf, processorRefusal}
+use Rattle.table_bytes.specs.Refusals.{processorByteRefusalOf, processorByteRefusal}
 use Rattle.basics.specs.Loops.{firstNonzero, first-nonzero-at, first-none-more}
 use borrow.Author.Needs.{needs}
-use Rattle.table_bytes.proofs.refusals.processor_refusal.Statement.{statement}
-use Rattle.table_bytes.proofs.refusals.processor_refusal.Tie as tie
+use Rattle.table_bytes.proofs.table_refusals.processor_byte_refusal.Statement.{statement}
+use Rattle.table_bytes.proofs.table_refusals.processor_byte_refusal.Tie as tie
 
 abbrev Inv-loop : tie.InvT-loop
-Inv-loop bytes processors jobs i₀ i = (i ≤ jobs) × (firstNonzero i (processorRefusalOf bytes) ≡ 0)
+Inv-loop bytes processors jobs i₀ i = (i ≤ jobs) × (firstNonzero i (processorByteRefusalOf bytes) ≡ 0)
 
 abbrev μ-loop : tie.MeasureT-loop
 μ-loop bytes processors jobs i₀ i = jobs - i
@@ -39,12 +39,12 @@ shared-slice-read-if1 : tie.Need-shared-slice-read-if1 Inv-loop μ-loop
 shared-slice-read-if1 c = search needs
 
 returns : tie.Need-returns Inv-loop μ-loop
-unfolding processorRefusal
+unfolding processorByteRefusal
 returns c =
     let b = now (c .before .before .before .before .before .before .before .before .args .bytes) in
     let i = c .before .before .before .loop .i in
-    let five : processorRefusalOf b (suc i) ≡ 5 = simp (le-ltb _ _ (c .if1 .taken)) in
-    sym (first-nonzero-at i (jobsIn b) (processorRefusalOf b) (c .before .before .before .loop .inv .1) (λ z. omega arith) (omega arith) ∙ five)
+    let five : processorByteRefusalOf b (suc i) ≡ 5 = simp (le-ltb _ _ (c .if1 .taken)) in
+    sym (first-nonzero-at i (jobsIn b) (processorByteRefusalOf b) (c .before .before .before .loop .inv .1) (λ z. omega arith) (omega arith) ∙ five)
 
 add-i : tie.Need-add-i Inv-loop μ-loop
 add-i c = search needs
@@ -56,18 +56,18 @@ loop-again : tie.Need-loop-again Inv-loop μ-loop
 loop-again c =
     let b = now (c .before .before .before .before .before .before .before .before .args .bytes) in
     let i = c .before .before .before .loop .i in
-    let none : processorRefusalOf b (suc i) ≡ 0 = simp (lt-ltb _ _ (c .if1 .left)) in
-    (omega arith, first-none-more i (processorRefusalOf b) (c .before .before .before .loop .inv .1) none)
+    let none : processorByteRefusalOf b (suc i) ≡ 0 = simp (lt-ltb _ _ (c .if1 .left)) in
+    (omega arith, first-none-more i (processorByteRefusalOf b) (c .before .before .before .loop .inv .1) none)
 
 returns-2 : tie.Need-returns-2 Inv-loop μ-loop
-unfolding processorRefusal
+unfolding processorByteRefusal
 returns-2 c =
     let b = now (c .before .before .before .before .before .before .args .bytes) in
     let all : c .before .loop .i ≡ jobsIn b = omega arith in
-    sym (ap (λ (n : ℕ). firstNonzero n (processorRefusalOf b)) (sym all) ∙ c .before .loop .inv .1)
+    sym (ap (λ (n : ℕ). firstNonzero n (processorByteRefusalOf b)) (sym all) ∙ c .before .loop .inv .1)
 
-pub processor-refusal-spec : {M : Type 1} → statement M
-processor-refusal-spec =
+pub processor-byte-refusal-spec : {M : Type 1} → statement M
+processor-byte-refusal-spec =
     tie.close
     (tie.spec
     Inv-loop

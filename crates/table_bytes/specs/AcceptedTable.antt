@@ -1,4 +1,4 @@
--- What is known of accepted table bytes, those of refusal 0: each condition of `Refusals` fails. `accepted` gives all of it
+-- What is known of accepted table bytes, those of refusal 0: each condition of `Refusals` fails. `accepted-table` gives all of it
 -- as one record, and `accepted-refusal` goes back: bytes of which it holds are accepted.
 -- Assumes nothing.
 use Prim.Native.Nat.{ℕ, zero, suc, _≤_, _<_}
@@ -15,21 +15,21 @@ use Rattle.ranks.specs.Ranks.{limit}
 use Rattle.state.specs.State.{mostObjects, mostProcessors}
 use Rattle.state.specs.WellFormed.{countsWithin}
 use Rattle.table_bytes.specs.Bytes.{byte, versionIn, processorsIn, jobsIn, objectsIn, processorIn, entryCount, entriesStart, tableLength}
-use Rattle.table_bytes.specs.Bytes.{rankIn, objectIn, modeIn, order, orderBefore}
-use Rattle.table_bytes.specs.Refusals.{hasMark, headerRefusal, mostEntries, lengthRefusal, processorRefusalOf, processorRefusal}
+use Rattle.table_bytes.specs.Bytes.{entryRank, entryObject, entryMode, order, orderBefore}
+use Rattle.table_bytes.specs.Refusals.{hasMark, headerRefusal, mostEntries, lengthRefusal, processorByteRefusalOf, processorByteRefusal}
 use Rattle.table_bytes.specs.Refusals.{entryRefusal, entryRefusalOf, entriesRefusal, tableRefusal}
 
 -- entry k, counted from 0, is within range and after the one before
 pub record EntryFits (b : List ℕ) (k : ℕ) : Type 0 where
-  pub rank-low : 1 ≤ rankIn b k
-  pub rank-high : rankIn b k ≤ jobsIn b
-  pub object-low : 1 ≤ objectIn b k
-  pub object-high : objectIn b k ≤ objectsIn b
-  pub mode-low : 1 ≤ modeIn b k
-  pub mode-high : modeIn b k ≤ 3
-  pub after : orderBefore b k < order (rankIn b k) (objectIn b k)
+  pub rank-low : 1 ≤ entryRank b k
+  pub rank-high : entryRank b k ≤ jobsIn b
+  pub object-low : 1 ≤ entryObject b k
+  pub object-high : entryObject b k ≤ objectsIn b
+  pub mode-low : 1 ≤ entryMode b k
+  pub mode-high : entryMode b k ≤ 3
+  pub after : orderBefore b k < order (entryRank b k) (entryObject b k)
 
-pub record Accepted (b : List ℕ) : Type 0 where
+pub record AcceptedTable (b : List ℕ) : Type 0 where
   pub long : 8 ≤ length b
   pub mark-first : byte b 0 ≡ 74
   pub mark-second : byte b 1 ≡ 79
@@ -92,27 +92,27 @@ module _ (b : List ℕ) (ok : lengthRefusal b ≡ 0) where
   pub table-in : tableLength b ≤ length b
   table-in = ltb-false (length b) (tableLength b) (lengths .2)
 
-processor-fits : (b : List ℕ) → processorRefusal b ≡ 0 → (k : ℕ) → k < jobsIn b → processorIn b k < processorsIn b
-unfolding processorRefusal
+processor-fits : (b : List ℕ) → processorByteRefusal b ≡ 0 → (k : ℕ) → k < jobsIn b → processorIn b k < processorsIn b
+unfolding processorByteRefusal
 processor-fits b ok k l =
-    let e = if-zero 4 (not (ltb (processorIn b k) (processorsIn b))) 0 (first-nonzero-none (jobsIn b) (processorRefusalOf b) (suc k) ok (omega arith) (omega arith)) in
+    let e = if-zero 4 (not (ltb (processorIn b k) (processorsIn b))) 0 (first-nonzero-none (jobsIn b) (processorByteRefusalOf b) (suc k) ok (omega arith) (omega arith)) in
     ltb-true (processorIn b k) (processorsIn b) (not-false _ (e .0))
 
 module _ (b : List ℕ) (k : ℕ) (ok : entryRefusalOf b (suc k) ≡ 0) where
-  entry-tests : (between 1 (jobsIn b) (rankIn b k) && between 1 (objectsIn b) (objectIn b k) && between 1 3 (modeIn b k) ≡ true)
-      × (ltb (orderBefore b k) (order (rankIn b k) (objectIn b k)) ≡ true)
+  entry-tests : (between 1 (jobsIn b) (entryRank b k) && between 1 (objectsIn b) (entryObject b k) && between 1 3 (entryMode b k) ≡ true)
+      × (ltb (orderBefore b k) (order (entryRank b k) (entryObject b k)) ≡ true)
   unfolding entryRefusal
   entry-tests =
-      let fields = if-zero 5 (not (between 1 (jobsIn b) (rankIn b k) && between 1 (objectsIn b) (objectIn b k) && between 1 3 (modeIn b k))) _ ok in
-      let after = if-zero 6 (not (ltb (orderBefore b k) (order (rankIn b k) (objectIn b k)))) _ (fields .1) in
+      let fields = if-zero 5 (not (between 1 (jobsIn b) (entryRank b k) && between 1 (objectsIn b) (entryObject b k) && between 1 3 (entryMode b k))) _ ok in
+      let after = if-zero 6 (not (ltb (orderBefore b k) (order (entryRank b k) (entryObject b k)))) _ (fields .1) in
       (not-false _ (fields .0), not-false _ (after .0))
 
   entry-fits : EntryFits b k
   entry-fits =
       let t = three _ _ _ (entry-tests .0) in
-      let r = between-true 1 (jobsIn b) (rankIn b k) (t .0) in
-      let o = between-true 1 (objectsIn b) (objectIn b k) (t .1) in
-      let m = between-true 1 3 (modeIn b k) (t .2) in
+      let r = between-true 1 (jobsIn b) (entryRank b k) (t .0) in
+      let o = between-true 1 (objectsIn b) (entryObject b k) (t .1) in
+      let m = between-true 1 3 (entryMode b k) (t .2) in
       record {
         rank-low = r .0;
         rank-high = r .1;
@@ -120,23 +120,23 @@ module _ (b : List ℕ) (k : ℕ) (ok : entryRefusalOf b (suc k) ≡ 0) where
         object-high = o .1;
         mode-low = m .0;
         mode-high = m .1;
-        after = ltb-true (orderBefore b k) (order (rankIn b k) (objectIn b k)) (entry-tests .1);
+        after = ltb-true (orderBefore b k) (order (entryRank b k) (entryObject b k)) (entry-tests .1);
       }
 
 -- ---- all of them
 
 module _ (b : List ℕ) (ok : tableRefusal b ≡ 0) where
-  steps : (headerRefusal b ≡ 0) × (lengthRefusal b ≡ 0) × (processorRefusal b ≡ 0) × (entriesRefusal b ≡ 0)
+  steps : (headerRefusal b ≡ 0) × (lengthRefusal b ≡ 0) × (processorByteRefusal b ≡ 0) × (entriesRefusal b ≡ 0)
   unfolding tableRefusal
   steps =
       let h = or-else-zero (headerRefusal b) _ ok in
       let l = or-else-zero (lengthRefusal b) _ (h .1) in
-      let p = or-else-zero (processorRefusal b) _ (l .1) in
+      let p = or-else-zero (processorByteRefusal b) _ (l .1) in
       (h .0, l .0, p .0, p .1)
 
-  pub accepted : Accepted b
+  pub accepted-table : AcceptedTable b
   unfolding entriesRefusal
-  accepted =
+  accepted-table =
       let h = header b (steps .0) in
       let m = three _ _ _ (h .1) in
       let n = three _ _ _ (h .3) in
@@ -164,7 +164,7 @@ module _ (b : List ℕ) (ok : tableRefusal b ≡ 0) where
 
 -- ---- and back
 
-module _ (b : List ℕ) (a : Accepted b) where
+module _ (b : List ℕ) (a : AcceptedTable b) where
   header-none : headerRefusal b ≡ 0
   unfolding headerRefusal
   header-none =
@@ -180,11 +180,11 @@ module _ (b : List ℕ) (a : Accepted b) where
   length-none =
       simp (le-ltb (length b) (entriesStart b) (a .start-within), le-ltb mostEntries (entryCount b) (a .count-high), le-ltb (length b) (tableLength b) (a .table-within))
 
-  processor-none : processorRefusal b ≡ 0
-  unfolding processorRefusal
-  processor-none = all-zero-first (jobsIn b) (processorRefusalOf b) each
+  processor-none : processorByteRefusal b ≡ 0
+  unfolding processorByteRefusal
+  processor-none = all-zero-first (jobsIn b) (processorByteRefusalOf b) each
     where
-      each : (i : ℕ) → 1 ≤ i → i ≤ jobsIn b → processorRefusalOf b i ≡ 0
+      each : (i : ℕ) → 1 ≤ i → i ≤ jobsIn b → processorByteRefusalOf b i ≡ 0
       each zero l h = refl
       each (suc k) l h = simp (lt-ltb (processorIn b k) (processorsIn b) (a .processor k (omega arith)))
 
@@ -196,10 +196,10 @@ module _ (b : List ℕ) (a : Accepted b) where
       each zero l h = refl
       each (suc k) l h =
           let e = a .entry k (omega arith) in
-          let fields : between 1 (jobsIn b) (rankIn b k) && between 1 (objectsIn b) (objectIn b k) && between 1 3 (modeIn b k) ≡ true =
-          three-true _ _ _ (inside-between 1 (jobsIn b) (rankIn b k) (e .rank-low) (e .rank-high))
-          (inside-between 1 (objectsIn b) (objectIn b k) (e .object-low) (e .object-high)) (inside-between 1 3 (modeIn b k) (e .mode-low) (e .mode-high)) in
-          simp (fields, lt-ltb (orderBefore b k) (order (rankIn b k) (objectIn b k)) (e .after))
+          let fields : between 1 (jobsIn b) (entryRank b k) && between 1 (objectsIn b) (entryObject b k) && between 1 3 (entryMode b k) ≡ true =
+          three-true _ _ _ (inside-between 1 (jobsIn b) (entryRank b k) (e .rank-low) (e .rank-high))
+          (inside-between 1 (objectsIn b) (entryObject b k) (e .object-low) (e .object-high)) (inside-between 1 3 (entryMode b k) (e .mode-low) (e .mode-high)) in
+          simp (fields, lt-ltb (orderBefore b k) (order (entryRank b k) (entryObject b k)) (e .after))
 
   pub accepted-refusal : tableRefusal b ≡ 0
   unfolding tableRefusal

@@ -1,4 +1,4 @@
--- `table_bytes::refusals::length_refusal` meets its contract, test by test.
+-- `table_bytes::table_refusals::length_refusal` meets its contract, test by test.
 -- Assumes nothing.
 use native.Mathlib.Omega.{arith}
 use denote.Ref.{now}
@@ -7,8 +7,8 @@ use Rattle.table_bytes.specs.Bytes.{entryCount, entriesStart, tableLengt
 use Rattle.table_bytes.specs.Refusals.{lengthRefusal, mostEntries}
 use lib.ListN.{length}
 use borrow.Author.Needs.{needs}
-use Rattle.table_bytes.proofs.refusals.length_refusal.Statement.{statement}
-use Rattle.table_bytes.proofs.refusals.length_refusal.Tie as tie
+use Rattle.table_bytes.proofs.table_refusals.length_refusal.Statement.{statement}
+use Rattle.table_bytes.proofs.table_refusals.length_refusal.Tie as tie
 
 entries-start-requires : tie.Need-entries-start-requires
 entries-start-requires c κs = search needs

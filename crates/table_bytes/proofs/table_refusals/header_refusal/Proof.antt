@@ -1,4 +1,4 @@
--- `table_bytes::refusals::header_refusal` meets its contract, test by test.
+-- `table_bytes::table_refusals::header_refusal` meets its contract, test by test.
 -- Assumes nothing.
 use Prim.Native.Nat.{ℕ}
 use mathlib.Core.Path.{_≡_, sym, _∙_}
@@ -11,8 +11,8 @@ use Rattle.state.specs.WellFormed.{countsWithin}
 use Rattle.table_bytes.specs.Bytes.{processorsIn, jobsIn, objectsIn, versionIn}
 use Rattle.table_bytes.specs.Refusals.{hasMark, headerRefusal}
 use borrow.Author.Needs.{needs}
-use Rattle.table_bytes.proofs.refusals.header_refusal.Statement.{statement}
-use Rattle.table_bytes.proofs.refusals.header_refusal.Tie as tie
+use Rattle.table_bytes.proofs.table_refusals.header_refusal.Statement.{statement}
+use Rattle.table_bytes.proofs.table_refusals.header_refusal.Tie as tie
 
 -- the header's refusal, by the answers of its four tests
 module _ (b : List ℕ) where

@@ -1,18 +1,18 @@
--- `table_bytes::refusals::entry_refusal_at` meets its contract: the fields are the three bytes of the entry.
+-- `table_bytes::table_refusals::entry_refusal_at` meets its contract: the fields are the three bytes of the entry.
 -- Assumes nothing.
 use mathlib.Core.Path.{_≡_, ap, _∙_}
 use mathlib.Core.List.{List}
 use Prim.Native.Nat.{ℕ, _+_}
 use denote.Ref.{now}
-use Rattle.table_bytes.specs.Bytes.{byte, jobsIn, objectsIn, entryStart, rankIn, objectIn, modeIn}
+use Rattle.table_bytes.specs.Bytes.{byte, jobsIn, objectsIn, entryStart, entryRank, entryObject, entryMode}
 use Rattle.table_bytes.specs.Refusals.{entryRefusal}
 use borrow.Author.Needs.{needs}
-use Rattle.table_bytes.proofs.refusals.entry_refusal_at.Statement.{statement}
-use Rattle.table_bytes.proofs.refusals.entry_refusal_at.Tie as tie
+use Rattle.table_bytes.proofs.table_refusals.entry_refusal_at.Statement.{statement}
+use Rattle.table_bytes.proofs.table_refusals.entry_refusal_at.Tie as tie
 
 at-start : (b : List ℕ) (entry before start r : ℕ) → start ≡ entryStart b entry
     → r ≡ entryRefusal (jobsIn b) (objectsIn b) before (byte b start) (byte b (start + 1)) (byte b (start + 2))
-    → r ≡ entryRefusal (jobsIn b) (objectsIn b) before (rankIn b entry) (objectIn b entry) (modeIn b entry)
+    → r ≡ entryRefusal (jobsIn b) (objectsIn b) before (entryRank b entry) (entryObject b entry) (entryMode b entry)
 at-start b entry before start r p e =
     e ∙ ap (λ (w : ℕ). entryRefusal (jobsIn b) (objectsIn b) before (byte b w) (byte b (w + 1)) (byte b (w + 2))) p
 

@@ -1,12 +1,12 @@
--- `table_bytes::refusals::fields_within` meets its contract: what the first two tests say together, then the third.
+-- `table_bytes::table_refusals::fields_within` meets its contract: what the first two tests say together, then the third.
 -- Assumes nothing.
 use mathlib.Core.Path.{_≡_, sym, _∙_}
 use mathlib.Core.Logic.{⊎-elim}
 use mathlib.Core.Bool.{_&&_}
 use Rattle.basics.specs.Choice.{between}
 use borrow.Author.Needs.{needs}
-use Rattle.table_bytes.proofs.refusals.fields_within.Statement.{statement}
-use Rattle.table_bytes.proofs.refusals.fields_within.Tie as tie
+use Rattle.table_bytes.proofs.table_refusals.fields_within.Statement.{statement}
+use Rattle.table_bytes.proofs.table_refusals.fields_within.Tie as tie
 
 within-requires : tie.Need-within-requires
 within-requires c κs = search needs

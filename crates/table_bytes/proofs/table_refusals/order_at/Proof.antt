@@ -1,11 +1,11 @@
--- `table_bytes::refusals::order_at` meets its contract: rank and object are the first two bytes of the entry.
+-- `table_bytes::table_refusals::order_at` meets its contract: rank and object are the first two bytes of the entry.
 -- Assumes nothing.
 use mathlib.Core.Path.{ap, _∙_}
 use denote.Ref.{now}
 use Rattle.table_bytes.specs.Bytes.{word}
 use borrow.Author.Needs.{needs}
-use Rattle.table_bytes.proofs.refusals.order_at.Statement.{statement}
-use Rattle.table_bytes.proofs.refusals.order_at.Tie as tie
+use Rattle.table_bytes.proofs.table_refusals.order_at.Statement.{statement}
+use Rattle.table_bytes.proofs.table_refusals.order_at.Tie as tie
 
 entry-start-requires : tie.Need-entry-start-requires
 entry-start-requires c κs = search needs

@@ -5,8 +5,8 @@ ghost use Prim.Native.Nat.{_+_, _≤_, _<_};
 ghost use lib.ListN.{length};
 ghost use lib.Dec.{eqb};
 ghost use Rattle.basics.specs.Choice.{between};
-ghost use Rattle.table_bytes.specs.Bytes.{jobsIn, objectsIn, entriesStart, tableLength, entryStart, rankIn, objectIn, modeIn, order};
-ghost use Rattle.table_bytes.specs.Refusals.{headerRefusal, lengthRefusal, processorRefusal, entryRefusal, entriesRefusal, tableRefusal};
+ghost use Rattle.table_bytes.specs.Bytes.{jobsIn, objectsIn, entriesStart, tableLength, entryStart, entryRank, entryObject, entryMode, order};
+ghost use Rattle.table_bytes.specs.Refusals.{headerRefusal, lengthRefusal, processorByteRefusal, entryRefusal, entriesRefusal, tableRefusal};
 use crate::bytes::entries_start;
 use crate::bytes::entry_count;
 use crate::bytes::entry_start;
@@ -60,9 +60,9 @@ fn length_refusal(bytes: &[u8]) -> u8
 }
 
 // 5 if a processor byte is too large, 0 if none is.
-fn processor_refusal(bytes: &[u8]) -> u8
+fn processor_byte_refusal(bytes: &[u8]) -> u8
     requires { ⌜ entriesStart (now bytes) ≤ length (now bytes) ⌝ }
-    ensures { λ r. ⌜ r ≡ processorRefusal (now (bytes .entry)) ⌝ }
+    ensures { λ r. ⌜ r ≡ processorByteRefusal (now (bytes .entry)) ⌝ }
 {
     let processors = bytes[5];
     let jobs = wide(bytes[6]);
@@ -100,7 +100,7 @@ fn entry_refusal(jobs: u8, objects: u8, before: usize, rank: u8, object: u8, mod
 fn entry_refusal_at(bytes: &[u8], entry: usize, before: usize) -> u8
     requires { ⌜ (entry < 65536) × (entryStart (now bytes) entry + 3 ≤ length (now bytes)) ⌝ }
     ensures { λ r. ⌜ r ≡ entryRefusal (jobsIn (now (bytes .entry))) (objectsIn (now (bytes .entry))) before
-        (rankIn (now (bytes .entry)) entry) (objectIn (now (bytes .entry)) entry) (modeIn (now (bytes .entry)) entry) ⌝ }
+        (entryRank (now (bytes .entry)) entry) (entryObject (now (bytes .entry)) entry) (entryMode (now (bytes .entry)) entry) ⌝ }
 {
     let start = entry_start(bytes, entry);
     entry_refusal(
@@ -116,7 +116,7 @@ fn entry_refusal_at(bytes: &[u8], entry: usize, before: usize) -> u8
 // The number by which the entry, counted from 0, is ordered: by rank, then object.
 fn order_at(bytes: &[u8], entry: usize) -> usize
     requires { ⌜ (entry < 65536) × (entryStart (now bytes) entry + 3 ≤ length (now bytes)) ⌝ }
-    ensures { λ r. ⌜ r ≡ order (rankIn (now (bytes .entry)) entry) (objectIn (now (bytes .entry)) entry) ⌝ }
+    ensures { λ r. ⌜ r ≡ order (entryRank (now (bytes .entry)) entry) (entryObject (now (bytes .entry)) entry) ⌝ }
 {
     let start = entry_start(bytes, entry);
     word(bytes[start], bytes[start + 1])
@@ -153,7 +153,7 @@ pub fn table_refusal(bytes: &[u8]) -> u8
     if lengths != 0 {
         return lengths;
     }
-    let processors = processor_refusal(bytes);
+    let processors = processor_byte_refusal(bytes);
     if processors != 0 {
         return processors;
     }

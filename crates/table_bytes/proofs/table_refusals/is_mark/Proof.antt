@@ -1,12 +1,12 @@
--- `table_bytes::refusals::is_mark` meets its contract: what the first two tests say together, then the third.
+-- `table_bytes::table_refusals::is_mark` meets its contract: what the first two tests say together, then the third.
 -- Assumes nothing.
 use mathlib.Core.Path.{_≡_, sym, _∙_}
 use borrow.Author.Tests.{eq-eqb, ne-eqb}
 use mathlib.Core.Logic.{⊎-elim}
 use mathlib.Core.Bool.{_&&_}
 use lib.Dec.{eqb}
-use Rattle.table_bytes.proofs.refusals.is_mark.Statement.{statement}
-use Rattle.table_bytes.proofs.refusals.is_mark.Tie as tie
+use Rattle.table_bytes.proofs.table_refusals.is_mark.Statement.{statement}
+use Rattle.table_bytes.proofs.table_refusals.is_mark.Tie as tie
 
 returns : tie.Need-returns
 returns c =

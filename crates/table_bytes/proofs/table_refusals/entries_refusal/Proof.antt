@@ -1,4 +1,4 @@
--- `table_bytes::refusals::entries_refusal` meets its contract. The loop's invariant: none of the first `entry` entries is faulty, and `before`
+-- `table_bytes::table_refusals::entries_refusal` meets its contract. The loop's invariant: none of the first `entry` entries is faulty, and `before`
 -- is the order of the last of them. A turn adds the entry that it looked at; where that is faulty, it is the first. The measure is how many entries are left.
 -- Assumes nothing.
 use mathlib.Core.Path.{_≡_, refl, sym, ap, _∙_}
@@ -7,16 +7,16 @@ use mathlib.Core.List.{List}
 use native.Mathlib.Omega.{arith}
 use native.Mathlib.Numerals.{add-one}
 use denote.Ref.{now}
-use Rattle.table_bytes.specs.Bytes.{jobsIn, objectsIn, entryCount, rankIn, objectIn, modeIn, orderBefore}
+use Rattle.table_bytes.specs.Bytes.{jobsIn, objectsIn, entryCount, entryRank, entryObject, entryMode, orderBefore}
 use Rattle.table_bytes.specs.Refusals.{entryRefusal, entryRefusalOf, entriesRefusal}
 use Rattle.basics.specs.Loops.{firstNonzero, first-nonzero-at, first-none-more}
 use borrow.Author.Needs.{needs}
-use Rattle.table_bytes.proofs.refusals.entries_refusal.Statement.{statement}
-use Rattle.table_bytes.proofs.refusals.entries_refusal.Tie as tie
+use Rattle.table_bytes.proofs.table_refusals.entries_refusal.Statement.{statement}
+use Rattle.table_bytes.proofs.table_refusals.entries_refusal.Tie as tie
 
 own-refusal : (b : List ℕ) (i before r : ℕ) → before ≡ orderBefore b i
-    → r ≡ entryRefusal (jobsIn b) (objectsIn b) before (rankIn b i) (objectIn b i) (modeIn b i) → entryRefusalOf b (suc i) ≡ r
-own-refusal b i before r p e = sym (e ∙ ap (λ (w : ℕ). entryRefusal (jobsIn b) (objectsIn b) w (rankIn b i) (objectIn b i) (modeIn b i)) p)
+    → r ≡ entryRefusal (jobsIn b) (objectsIn b) before (entryRank b i) (entryObject b i) (entryMode b i) → entryRefusalOf b (suc i) ≡ r
+own-refusal b i before r p e = sym (e ∙ ap (λ (w : ℕ). entryRefusal (jobsIn b) (objectsIn b) w (entryRank b i) (entryObject b i) (entryMode b i)) p)
 
 abbrev Inv-loop : tie.InvT-loop
 Inv-loop bytes count before₀ entry₀ before entry = (entry ≤ count) × (before ≡ orderBefore bytes entry) × (firstNonzero entry (entryRefusalOf bytes) ≡ 0)
