@@ -23,12 +23,14 @@ pub fn grant(
 {
     let i = (object - 1) as usize;
     let j = (rank - 1) as usize;
+    let reading = readers[i];
     request[j] = 0;
     if mode == 1 {
-        readers[i] = ranks::with(readers[i], rank);
+        readers[i] = ranks::with(reading, rank);
     } else {
-        readers[i] = ranks::without(readers[i], rank);
-        writers[i] = ranks::with(writers[i], rank);
+        let writing = writers[i];
+        readers[i] = ranks::without(reading, rank);
+        writers[i] = ranks::with(writing, rank);
     }
 }
 

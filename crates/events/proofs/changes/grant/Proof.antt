@@ -39,17 +39,17 @@ sub-j c = search needs
 cast-j : tie.Need-cast-j
 cast-j c = search needs
 
+mul-reading : tie.Need-mul-reading
+mul-reading c = search needs
+
+element-copy-out-reading : tie.Need-element-copy-out-reading
+element-copy-out-reading c = search needs
+
 mul-request : tie.Need-mul-request
 mul-request c = search needs
 
 element-write-request : tie.Need-element-write-request
 element-write-request c = search needs
-
-mul-with : tie.Need-mul-with
-mul-with c = search needs
-
-element-copy-out-with : tie.Need-element-copy-out-with
-element-copy-out-with c = search needs
 
 with-requires : tie.Need-with-requires
 with-requires c κs = search needs
@@ -60,11 +60,11 @@ mul-readers c = search needs
 element-write-readers : tie.Need-element-write-readers
 element-write-readers c = search needs
 
-mul-without : tie.Need-mul-without
-mul-without c = search needs
+mul-writing : tie.Need-mul-writing
+mul-writing c = search needs
 
-element-copy-out-without : tie.Need-element-copy-out-without
-element-copy-out-without c = search needs
+element-copy-out-writing : tie.Need-element-copy-out-writing
+element-copy-out-writing c = search needs
 
 without-requires : tie.Need-without-requires
 without-requires c κs = search needs
@@ -74,12 +74,6 @@ mul-readers-2 c = search needs
 
 element-write-readers-2 : tie.Need-element-write-readers-2
 element-write-readers-2 c = search needs
-
-mul-with-2 : tie.Need-mul-with-2
-mul-with-2 c = search needs
-
-element-copy-out-with-2 : tie.Need-element-copy-out-with-2
-element-copy-out-with-2 c = search needs
 
 with-requires-2 : tie.Need-with-requires-2
 with-requires-2 c κs = search needs
@@ -91,9 +85,9 @@ element-write-writers : tie.Need-element-write-writers
 element-write-writers c = search needs
 
 returns : tie.Need-returns
-returns c =
+returns c = 
     let a = c .before .before .before .args in
-    let e = eq-eqb (a .mode) 1 (c .before .before .if1 .taken) in (
+    let e = eq-eqb (a .mode) 1 (c .before .if1 .taken) in (
       changed (λ v. with v (a .rank)) (a .readers .now) (a .object) (c .with .result) (c .before .before .before .pre .2) (c .with .ensures)
           ∙ readers-by (a .mode) (a .rank) (a .object) (a .readers .now) true e,
       writers-by (a .mode) (a .rank) (a .object) (a .writers .now) true e,
@@ -101,10 +95,10 @@ returns c =
     )
 
 returns-2 : tie.Need-returns-2
-returns-2 c =
+returns-2 c = 
     let a = c .before .before .before .before .before .args in
-    let e = ne-eqb (a .mode) 1 (c .before .before .before .before .if1 .left) in (
-      changed (λ v. without v (a .rank)) (a .readers .now) (a .object) (c .before .before .without .result) (c .before .before .before .before .before .pre .2) (c .before .before .without .ensures)
+    let e = ne-eqb (a .mode) 1 (c .before .before .before .if1 .left) in (
+      changed (λ v. without v (a .rank)) (a .readers .now) (a .object) (c .before .without .result) (c .before .before .before .before .before .pre .2) (c .before .without .ensures)
           ∙ readers-by (a .mode) (a .rank) (a .object) (a .readers .now) false e,
       changed (λ v. with v (a .rank)) (a .writers .now) (a .object) (c .with2 .result) (c .before .before .before .before .before .pre .2) (c .with2 .ensures)
           ∙ writers-by (a .mode) (a .rank) (a .object) (a .writers .now) false e,
@@ -119,20 +113,18 @@ grant-spec =
     cast-i
     sub-j
     cast-j
+    mul-reading
+    element-copy-out-reading
     mul-request
     element-write-request
-    mul-with
-    element-copy-out-with
     with-requires
     mul-readers
     element-write-readers
-    mul-without
-    element-copy-out-without
+    mul-writing
+    element-copy-out-writing
     without-requires
     mul-readers-2
     element-write-readers-2
-    mul-with-2
-    element-copy-out-with-2
     with-requires-2
     mul-writers
     element-write-writers
