@@ -1,5 +1,6 @@
 /* Compares the library with the model (model.c) on random tables, events, states (inputs.c) and questions. Prints how many calls agreed and how many did not.
- * Usage: compare [TABLES [EVENTS [SEED]]]: 1,000 tables, 120 events on each. Each event is one call; so is each table, part, state and question. */
+ * Usage: compare [TABLES [EVENTS [SEED]]]: 1,000 tables, 120 events on each. Each event is one call; so is each table, part, state and question,
+ * and each name of the header. */
 #include <stdio.h>
 #include <stdlib.h>
 #include <string.h>
@@ -18,6 +19,29 @@ static void check(int same, const char *what)
     } else if (++failed <= 10) {
         printf("differs: %s\n", what);
     }
+}
+
+/* ---- The header's names */
+
+/* Each kind, answer, reason and refusal in the order of its number, and the limits. */
+static void compare_names(void)
+{
+    static const int kinds[] = {0, VONGSELIK_START, VONGSELIK_READ_LOCK, VONGSELIK_WRITE_LOCK, VONGSELIK_UNLOCK, VONGSELIK_FINISH, VONGSELIK_ABANDON};
+    static const int answers[] = {0, VONGSELIK_GRANTED, VONGSELIK_WAITS, VONGSELIK_DONE, VONGSELIK_REFUSED};
+    static const int reasons[] = {0, VONGSELIK_CONFLICT, VONGSELIK_CEILING, VONGSELIK_CAP};
+    static const int refusals[] = {
+        VONGSELIK_NOT_REFUSED, VONGSELIK_BYTES_END_EARLY, VONGSELIK_WRONG_MARK, VONGSELIK_WRONG_VERSION, VONGSELIK_COUNT_OUT_OF_RANGE,
+        VONGSELIK_PROCESSOR_BYTE_TOO_LARGE, VONGSELIK_ENTRY_OUT_OF_RANGE, VONGSELIK_ENTRY_OUT_OF_ORDER, VONGSELIK_STATE_NOT_WELL_FORMED,
+        VONGSELIK_UNKNOWN_KIND, VONGSELIK_RANK_OUT_OF_RANGE, VONGSELIK_OBJECT_OUT_OF_RANGE, VONGSELIK_ALREADY_ACTIVE, VONGSELIK_IDLE, VONGSELIK_WAITING,
+        VONGSELIK_LOCK_AFTER_UNLOCK, VONGSELIK_NOT_DECLARED, VONGSELIK_ALREADY_HELD, VONGSELIK_NOT_HELD, VONGSELIK_NO_SUCH_PROCESSOR,
+        VONGSELIK_BUFFER_TOO_SHORT};
+    int i;
+    for (i = 1; i <= 6; i++) check(kinds[i] == i, "a kind's number");
+    for (i = 1; i <= 4; i++) check(answers[i] == i, "an answer's number");
+    for (i = 1; i <= 3; i++) check(reasons[i] == i, "a reason's number");
+    for (i = 0; i <= 20; i++) check(refusals[i] == i, "a refusal's number");
+    check(VONGSELIK_MOST_JOBS == 64 && VONGSELIK_MOST_OBJECTS == 128 && VONGSELIK_MOST_PROCESSORS == 8, "a limit");
+    check(VONGSELIK_NOBODY == 65 && VONGSELIK_LONGEST_TABLE == 10 + 64 + 3 * 8192, "a limit");
 }
 
 /* ---- Tables */
@@ -44,14 +68,14 @@ static void compare_entries(const uint8_t *bytes, size_t n, int rank)
     check(raw == refusal && raw_start == (refusal ? 555 : start) && raw_length == (refusal ? 666 : length), "parts_job_entries");
 }
 
-static void compare_writing(const vongselik_state *s, const model *m)
+static void compare_writing(const vongselik_state *s, const model *m, size_t size)
 {
     static uint8_t ours[LONGEST], theirs[LONGEST];
-    size_t length = 777, model_length = 777, size = below(3) ? (size_t)LONGEST : (size_t)below(400), i;
+    size_t length = 777, model_length = 777, i;
     int refusal, number;
     for (i = 0; i < LONGEST; i++) ours[i] = theirs[i] = (uint8_t)(i * 37 + 11);
     refusal = model_write_table(m, theirs, size, &model_length);
-    number = vongselik_write_table(s, ours, size, &length);
+    number = vongselik_write_table(s, size ? ours : NULL, size, &length);
     check(number == refusal && length == model_length && !memcmp(ours, theirs, LONGEST), "write_table");
 }
 
@@ -125,7 +149,7 @@ static void compare_handed_in(const vongselik_state *handed)
     model_from(&m, &s);
     compare_event(&s, &m);
     compare_questions(&s, &m, below(4) == 0);
-    if (below(4) == 0) compare_writing(&s, &m);
+    if (below(4) == 0) compare_writing(&s, &m, below(3) ? (size_t)LONGEST : (size_t)below(400));
 }
 
 /* ---- All of it for one table */
@@ -148,7 +172,10 @@ static void compare_table(int events)
         for (k = below(4); k > 0; k--) mutate(&other);
         compare_handed_in(&other);
     }
-    compare_writing(&s, &m);
+    compare_writing(&s, &m, LONGEST);
+    compare_writing(&s, &m, used);
+    compare_writing(&s, &m, used - 1);
+    compare_writing(&s, &m, 0);
     fill_with_noise(&other);
     compare_handed_in(&other);
 }
@@ -157,6 +184,7 @@ int main(int argc, char **argv)
 {
     int tables = argc > 1 ? atoi(argv[1]) : 1000, events = argc > 2 ? atoi(argv[2]) : 120, i;
     unsigned long start = argc > 3 ? strtoul(argv[3], NULL, 10) : 1;
+    compare_names();
     for (i = 0; i < tables; i++) {
         begin_inputs(start, i);
         compare_table(events);
