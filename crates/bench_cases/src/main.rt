@@ -1,5 +1,5 @@
-// Runs the bench on each file that an argument names, in parts of one byte, of five, and as large as they come; then where no record, and
-// where no failure can be written. Each run's record is followed by how it ended.
+// Runs the bench on each file that an argument names, in parts of one byte, of five, and as large as they come; then on an input that is longer
+// than its buffer, where no record, and where no failure can be written. Each run's record is followed by how it ended.
 use libc::STDOUT_FILENO;
 use recorder::Ended;
 use recorder::InputBuffer;
@@ -81,6 +81,7 @@ fn main() {
     let mut input = [0; 32768];
     let mut lines = [0; 491610];
     run_arguments(&mut input, &mut lines);
+    run_in_parts(b"longer_than_the_buffer", 32768, &mut input, &mut lines);
     run_unwritten(b"example", STDOUT_FILENO, &mut input, &mut lines);
     run_unwritten(b"no_bytes", STDOUT_FILENO, &mut input, &mut lines);
     run_unwritten(b"example", -1, &mut input, &mut lines);

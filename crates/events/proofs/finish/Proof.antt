@@ -26,19 +26,19 @@ finish-refusal-requires : tie.Need-finish-refusal-requires
 finish-refusal-requires c κs = search needs
 
 returns : tie.Need-returns
-returns c = 
+returns c =
     let a = c .before .before .before .before .args in
     λ p ps. L.perform-refused (whole ((c .before .before .before .before)) p ps) (a .kind) (a .rank) (a .object) (c .before .finish-refusal .result) (c .before .finish-refusal .ensures p (a .objects) (now (a .unlocked)) ps (now (a .may-read)) (now (a .may-write)) (now (a .readers)) (now (a .writers))) (c .if1 .taken)
 
 end-run-requires : tie.Need-end-run-requires
-end-run-requires c κs = 
+end-run-requires c κs =
     let a = c .before .before .before .before .before .before .before .before .before .args in
     let P = c .before .before .before .before .before .before .before .before .before .pre in
     let n = accepted-numbers (whole ((c .before .before .before .before .before .before .before .before .before)) 0 []) (a .kind) (a .rank) (a .object) (sym (c .before .before .before .before .before .before .finish-refusal .ensures 0 (a .objects) (now (a .unlocked)) [] (now (a .may-read)) (now (a .may-write)) (now (a .readers)) (now (a .writers))) ∙ c .before .before .before .before .before .if1 .left) in
     (P .0 .jobs-fit, P .0 .objects-fit, n .0, omega (arith, n .1, P .0 .jobs-fit), P .0 .requests-fit)
 
 returns-2 : tie.Need-returns-2
-returns-2 c = 
+returns-2 c =
     let a = c .before .before .before .before .before .before .before .before .before .before .args in
     λ p ps.
     let s = whole ((c .before .before .before .before .before .before .before .before .before .before)) p ps in

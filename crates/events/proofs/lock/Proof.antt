@@ -34,7 +34,7 @@ lock-refusal-requires : tie.Need-lock-refusal-requires
 lock-refusal-requires c κs = search needs
 
 returns : tie.Need-returns
-returns c = 
+returns c =
     let a = c .before .before .before .before .before .args in
     λ p ps. L.perform-refused (whole ((c .before .before .before .before .before)) p ps) (a .kind) (a .rank) (a .object) (c .before .lock-refusal .result) (c .before .lock-refusal .ensures p ps) (c .if1 .taken)
 
@@ -42,13 +42,13 @@ sub-grant-or-wait : tie.Need-sub-grant-or-wait
 sub-grant-or-wait c = search needs
 
 grant-or-wait-requires : tie.Need-grant-or-wait-requires
-grant-or-wait-requires c κs = 
+grant-or-wait-requires c κs =
     let P = c .before .before .before .before .before .before .before .before .pre in
     let n = numbers ((c .before .before .before .before .before .before .before .before)) (sym (c .before .before .before .before .lock-refusal .ensures 0 []) ∙ c .before .before .before .if1 .left) in
     (P .1, omega (arith, P .3), n .0, n .1, n .2, n .3)
 
 returns-2 : tie.Need-returns-2
-returns-2 c = 
+returns-2 c =
     let a = c .before .before .before .before .before .before .before .before .before .args in
     λ p ps.
     let s = whole ((c .before .before .before .before .before .before .before .before .before)) p ps in

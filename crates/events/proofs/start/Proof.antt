@@ -19,20 +19,20 @@ start-refusal-requires : tie.Need-start-refusal-requires
 start-refusal-requires c κs = search needs
 
 returns : tie.Need-returns
-returns c = 
+returns c =
     let a = c .before .before .before .args in
     λ p o u ps mr mw rs ws q. L.perform-refused (stateOf p (a .jobs) o ps mr mw (now (a .active)) u rs ws q) 1 (a .rank) (a .object) (c .before .start-refusal .result)
     (c .before .start-refusal .ensures p o u ps mr mw rs ws q) (c .if1 .taken)
 
 with-requires : tie.Need-with-requires
-with-requires c κs = 
+with-requires c κs =
     let a = c .before .before .before .args in
     let n = accepted-numbers (stateOf 0 (a .jobs) 0 [] [] [] (now (a .active)) 0 [] [] []) 1 (a .rank) (a .object) (sym (c .before .start-refusal .ensures 0 0 0 [] [] [] [] [] []) ∙ c .if1 .left) in
     (n .0, omega (arith, n .1, c .before .before .before .pre))
 
 returns-2 : tie.Need-returns-2
 unfolding activate
-returns-2 c = 
+returns-2 c =
     let a = c .before .before .before .before .args in
     λ p o u ps mr mw rs ws q.
     let s = stateOf p (a .jobs) o ps mr mw (now (a .active)) u rs ws q in

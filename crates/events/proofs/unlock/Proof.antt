@@ -41,7 +41,7 @@ unlock-refusal-requires : tie.Need-unlock-refusal-requires
 unlock-refusal-requires c κs = search needs
 
 returns : tie.Need-returns
-returns c = 
+returns c =
     let a = c .before .before .before .before .before .args in
     λ p ps. L.perform-refused (whole ((c .before .before .before .before .before)) p ps) 4 (a .rank) (a .object) (c .before .unlock-refusal .result) (c .before .unlock-refusal .ensures p (now (a .unlocked)) ps (now (a .may-read)) (now (a .may-write))) (c .if1 .taken)
 
@@ -59,7 +59,7 @@ wake-requires c κs = (c .before .before .before .before .before .before .before
 
 returns-2 : tie.Need-returns-2
 unfolding release
-returns-2 c = 
+returns-2 c =
     let a = c .before .before .before .before .before .before .before .before .before .before .before .before .before .before .before .args in
     λ p ps.
     let s = whole ((c .before .before .before .before .before .before .before .before .before .before .before .before .before .before .before)) p ps in

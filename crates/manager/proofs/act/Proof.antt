@@ -21,7 +21,7 @@ fits-requires : tie.Need-fits-requires
 fits-requires c κs = search needs
 
 returns : tie.Need-returns
-returns c = 
+returns c =
     let a = c .before .before .before .before .before .before .before .args in
     sym (step-8 (whole ((c .before .before .before .before .before .before .before))) (a .kind) (a .rank) (a .object) (sym (c .before .fits2 .ensures) ∙ not-true (c .before .fits2 .result) (c .if1 .taken)))
 
@@ -29,7 +29,7 @@ perform-requires : tie.Need-perform-requires
 perform-requires c κs = in-range (whole ((c .before .before .before .before .before .before .before .before .before .before .before .before))) (sym (c .before .before .before .before .before .before .fits2 .ensures) ∙ not-false (c .before .before .before .before .before .before .fits2 .result) (c .before .before .before .before .before .if1 .left))
 
 returns-2 : tie.Need-returns-2
-returns-2 c = 
+returns-2 c =
     let a = c .before .before .before .before .before .before .before .before .before .before .before .before .before .args in
     c .perform .ensures (a .processors) (now (a .processor-of))
     ∙ sym (step-performs (whole ((c .before .before .before .before .before .before .before .before .before .before .before .before .before))) (a .kind) (a .rank) (a .object) (sym (c .before .before .before .before .before .before .before .fits2 .ensures) ∙ not-false (c .before .before .before .before .before .before .before .fits2 .result) (c .before .before .before .before .before .before .if1 .left)))

@@ -85,7 +85,7 @@ element-write-writers : tie.Need-element-write-writers
 element-write-writers c = search needs
 
 returns : tie.Need-returns
-returns c = 
+returns c =
     let a = c .before .before .before .args in
     let e = eq-eqb (a .mode) 1 (c .before .if1 .taken) in (
       changed (λ v. with v (a .rank)) (a .readers .now) (a .object) (c .with .result) (c .before .before .before .pre .2) (c .with .ensures)
@@ -95,7 +95,7 @@ returns c =
     )
 
 returns-2 : tie.Need-returns-2
-returns-2 c = 
+returns-2 c =
     let a = c .before .before .before .before .before .args in
     let e = ne-eqb (a .mode) 1 (c .before .before .before .if1 .left) in (
       changed (λ v. without v (a .rank)) (a .readers .now) (a .object) (c .before .without .result) (c .before .before .before .before .before .pre .2) (c .before .without .ensures)
