@@ -15,7 +15,7 @@ use Rattle.state.specs.declared.State.{State}
 use Rattle.state.specs.State.{mostObjects, isRank, isObject, isActive, hasUnlocked, mayLock, holdsAlready, requestOf, objectOfRequest, requestedMode, requestedObject}
 use Rattle.state.specs.WellFormed.{mayAwait, waitFits, waitsFit, wellFormed}
 use Rattle.state.specs.Clauses.{clauses, counts-within}
-use Rattle.refusals.specs.Refusals.{objectAllowed, eventRefusal, refusal, jobRefusal, objectRefusal, processorRefusal}
+use Rattle.refusals.specs.Refusals.{objectAllowed, eventRefusal, jobRefusal, objectRefusal, processorRefusal}
 
 -- each waiting job asks for an object that the arrays have
 abbrev pub RequestsFit : List ℕ → Type 0

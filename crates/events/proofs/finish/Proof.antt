@@ -1,16 +1,13 @@
 -- `events::finish` meets its contract: refused, or the rank is in range and its run ends.
 -- Assumes nothing.
 use denote.Ref.{now}
-use mathlib.Core.Path.{_≡_, refl, sym, _∙_}
+use mathlib.Core.Path.{sym, _∙_}
 use mathlib.Core.List.{List, []}
-use Prim.Native.Nat.{ℕ, _≤_}
+use Prim.Native.Nat.{ℕ}
 use native.Mathlib.Omega.{arith}
-use Rattle.basics.specs.Choice.{between-true, inside-between}
-use Rattle.ranks.specs.Ranks.{limit}
 use Rattle.state.specs.declared.State.{State}
-use Rattle.state.specs.State.{mostObjects, stateOf, release}
+use Rattle.state.specs.State.{stateOf}
 use Rattle.refusals.specs.Accepting.{accepted-numbers}
-use Rattle.refusals.specs.Refusals.{eventRefusal}
 use Rattle.events.specs.Events as E
 use Rattle.events.proofs.EventLaws as L
 use borrow.Author.Needs.{needs}

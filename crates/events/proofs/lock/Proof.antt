@@ -1,14 +1,14 @@
 -- `events::lock` meets its contract: refused, or rank and object are in range and the request is granted or waits.
 -- Assumes nothing.
 use denote.Ref.{now}
-use mathlib.Core.Path.{_≡_, refl, sym, _∙_}
+use mathlib.Core.Path.{_≡_, sym, _∙_}
 use mathlib.Core.List.{List, []}
 use Prim.Native.Nat.{ℕ, _≤_}
 use native.Mathlib.Omega.{arith}
 use Rattle.basics.specs.Choice.{between-true, inside-between}
 use Rattle.ranks.specs.Ranks.{limit}
 use Rattle.state.specs.declared.State.{State}
-use Rattle.state.specs.State.{mostObjects, stateOf, release}
+use Rattle.state.specs.State.{mostObjects, stateOf}
 use Rattle.refusals.specs.Accepting.{accepted-numbers}
 use Rattle.refusals.specs.Refusals.{eventRefusal}
 use Rattle.events.specs.Events as E

@@ -1,11 +1,10 @@
 -- `events::start` meets its contract: refused, or the rank joins the active ones.
 -- Assumes nothing.
 use denote.Ref.{now}
-use mathlib.Core.Path.{_≡_, refl, sym, ap, _∙_}
-use mathlib.Core.List.{List, []}
+use mathlib.Core.Path.{refl, sym, ap, _∙_}
+use mathlib.Core.List.{[]}
 use Prim.Native.Nat.{ℕ}
 use native.Mathlib.Omega.{arith}
-use Rattle.state.specs.declared.State.{State}
 use Rattle.state.specs.State.{stateOf, activate}
 use Rattle.refusals.specs.Accepting.{accepted-numbers}
 use Rattle.events.specs.declared.Answer.the-variants.{Done}

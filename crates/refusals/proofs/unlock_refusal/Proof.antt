@@ -10,7 +10,6 @@ use borrow.Author.Tests.{not-true, not-false}
 use Rattle.basics.specs.Choice.{_if_else_, between-true}
 use Rattle.basics.specs.Arrays.{at}
 use Rattle.ranks.specs.Ranks.{member}
-use Rattle.state.specs.State.{ofMode}
 use Rattle.refusals.specs.Refusals as R
 use borrow.Author.Needs.{needs}
 use Rattle.refusals.proofs.unlock_refusal.Statement.{statement}
