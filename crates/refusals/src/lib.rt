@@ -33,7 +33,7 @@ pub fn set_of(sets: &ObjectSets, object: u8) -> RankSet
     sets[(object - 1) as usize]
 }
 
-// 13 and 14, of an event other than a start, for a rank that is active or not, and that waits where this kind must not, or not.
+// 13 for an idle job, 14 where the job waits and the kind is none for a waiting one; else the rest.
 fn job_event_refusal(active: bool, waiting: bool, rest: u8) -> u8
     ensures { λ r. ⌜ r ≡ (13 if not active else 14 if waiting else rest) ⌝ }
 {
