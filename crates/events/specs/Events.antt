@@ -45,7 +45,7 @@ unlock s r o = wake (release s r o)
 abbrev pub finish : State → ℕ → Outcome
 finish s r = wake (endRun s r)
 
--- an event that is not refused; no other kind is one
+-- "Each kind has its own rule": an event that is not refused. A kind without a rule is refused, by 9.
 unfoldable pub accepted : State → ℕ → ℕ → ℕ → Outcome
 accepted s k r o =
     if eqb k 1 then start s r else
