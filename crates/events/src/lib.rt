@@ -5,9 +5,6 @@ ghost use Prim.Native.Nat.{ℕ, _≤_};
 ghost use Rattle.state.specs.State.{stateOf};
 ghost use Rattle.refusals.specs.Accepting.{RequestsFit, InRange};
 ghost use Rattle.events.specs.Events as E;
-
-mod changes;
-
 use changes::grant;
 use changes::mode_of_request;
 use changes::object_of_request;

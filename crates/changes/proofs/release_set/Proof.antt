@@ -1,4 +1,4 @@
--- `events::release_set` meets its contract: an object's element stands at its index.
+-- `changes::release_set` meets its contract: an object's element stands at its index.
 -- Assumes nothing.
 use mathlib.Core.Path.{sym, ap, _∙_}
 use Prim.Native.Nat.{ℕ, _-_}
@@ -6,8 +6,8 @@ use lib.ListN.{set}
 use Rattle.basics.specs.Arrays.{at-index, put-index, at}
 use Rattle.ranks.specs.Ranks.{without}
 use borrow.Author.Needs.{needs}
-use Rattle.events.proofs.changes.release_set.Statement.{statement}
-use Rattle.events.proofs.changes.release_set.Tie as tie
+use Rattle.changes.proofs.release_set.Statement.{statement}
+use Rattle.changes.proofs.release_set.Tie as tie
 
 sub-i : tie.Need-sub-i
 sub-i c = search needs

@@ -1,4 +1,4 @@
-// Changes of a state's parts, in place.
+// Changes of a state's parts, in place: a lock given, locks given up, a request stored.
 ghost use mathlib.Core.Path.{_≡_};
 ghost use Prim.Native.Nat.{_≤_};
 ghost use Rattle.basics.specs.Arrays.{put};

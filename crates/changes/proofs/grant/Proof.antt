@@ -1,4 +1,4 @@
--- `events::grant` meets its contract: an object's and a rank's elements stand at their indices.
+-- `changes::grant` meets its contract: an object's and a rank's elements stand at their indices.
 -- Assumes nothing.
 use mathlib.Core.Path.{_≡_, sym, ap, _∙_}
 use mathlib.Core.Bool.{Bool, true, false}
@@ -12,8 +12,8 @@ use Rattle.basics.specs.Arrays.{at, put, at-index, put-index}
 use Rattle.ranks.specs.Ranks.{with, without}
 use Rattle.state.specs.State.{grantReaders, grantWriters}
 use borrow.Author.Needs.{needs}
-use Rattle.events.proofs.changes.grant.Statement.{statement}
-use Rattle.events.proofs.changes.grant.Tie as tie
+use Rattle.changes.proofs.grant.Statement.{statement}
+use Rattle.changes.proofs.grant.Tie as tie
 
 -- an element changed at its index
 changed : (f : ℕ → ℕ) (xs : List ℕ) (o v : ℕ) → 1 ≤ o → v ≡ f (getD xs (o - 1) 0) → set xs (o - 1) v ≡ put xs o (f (at xs o))

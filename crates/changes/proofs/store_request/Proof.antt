@@ -1,10 +1,10 @@
--- `events::store_request` meets its contract: a rank's element stands at its index.
+-- `changes::store_request` meets its contract: a rank's element stands at its index.
 -- Assumes nothing.
 use mathlib.Core.Path.{sym}
 use Rattle.basics.specs.Arrays.{put-index}
 use borrow.Author.Needs.{needs}
-use Rattle.events.proofs.changes.store_request.Statement.{statement}
-use Rattle.events.proofs.changes.store_request.Tie as tie
+use Rattle.changes.proofs.store_request.Statement.{statement}
+use Rattle.changes.proofs.store_request.Tie as tie
 
 sub-j : tie.Need-sub-j
 sub-j c = search needs

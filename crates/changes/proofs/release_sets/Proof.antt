@@ -1,4 +1,4 @@
--- `events::release_sets` meets its contract. The loop's invariant: the first i sets are without the rank, the others as they were.
+-- `changes::release_sets` meets its contract. The loop's invariant: the first i sets are without the rank, the others as they were.
 -- It ends because what is left of the 128 sets falls.
 -- Assumes nothing.
 use Prim.Native.Nat.{ℕ, _-_, _≤_}
@@ -9,8 +9,8 @@ use lib.ListN.{getD, set}
 use Rattle.basics.specs.Arrays.{mapped, mapped-more}
 use Rattle.ranks.specs.Ranks.{without}
 use borrow.Author.Needs.{needs}
-use Rattle.events.proofs.changes.release_sets.Statement.{statement}
-use Rattle.events.proofs.changes.release_sets.Tie as tie
+use Rattle.changes.proofs.release_sets.Statement.{statement}
+use Rattle.changes.proofs.release_sets.Tie as tie
 
 abbrev Inv-loop : tie.InvT-loop
 Inv-loop sets₀ rank i₀ sets i = (i ≤ 128) × (sets ≡ mapped (λ v. without v rank) i sets₀)
