@@ -1,5 +1,6 @@
 // Runs the bench on each file that an argument names, in parts of one byte, of five, and as large as they come; then on an input that is longer
-// than its buffer, where no record, and where no failure can be written. Each run's record is followed by how it ended.
+// than its buffer, where no record, where no failure can be written, and where standard input is closed. Each run's record is followed by how it ended.
+use libc::STDIN_FILENO;
 use libc::STDOUT_FILENO;
 use recorder::Ended;
 use recorder::InputBuffer;
@@ -76,7 +77,15 @@ fn run_arguments(input: &mut InputBuffer, lines: &mut RecordBuffer) {
     }
 }
 
-// The first write of the example fails at its first part, that of no bytes at the last line; the last run has no place for errors.
+// A run on standard input that is closed: what it says of that is not for standard output.
+fn run_closed(input: &mut InputBuffer, lines: &mut RecordBuffer) {
+    io::write_all(STDOUT_FILENO, b"standard input, closed:\n");
+    libc::close(STDIN_FILENO);
+    let recorded = recorder::write_standard_record(input, lines);
+    say_recorded(recorded);
+}
+
+// The first write of the example fails at its first part, that of no bytes at the last line; the last run on it has no place for errors.
 fn main() {
     let mut input = [0; 32768];
     let mut lines = [0; 491610];
@@ -85,4 +94,5 @@ fn main() {
     run_unwritten(b"example", STDOUT_FILENO, &mut input, &mut lines);
     run_unwritten(b"no_bytes", STDOUT_FILENO, &mut input, &mut lines);
     run_unwritten(b"example", -1, &mut input, &mut lines);
+    run_closed(&mut input, &mut lines);
 }

@@ -6,6 +6,9 @@ ghost use Rattle.table_bytes.specs.Decided.{longestTable};
 ghost use Rattle.decimals.specs.Laid.{Laid};
 ghost use Rattle.stream.specs.Parts.{feed, Advances};
 ghost use Rattle.recorder.specs.Recording.{partOf, Came, Feeds, AfterSomeParts, failureOf, MayEndWithoutPart, Records};
+use libc::STDERR_FILENO;
+use libc::STDIN_FILENO;
+use libc::STDOUT_FILENO;
 use stream::Advanced;
 use stream::Bench;
 
@@ -243,4 +246,18 @@ pub fn write_record(
     let ended = recorded.ended;
     report(errors, ended);
     recorded
+}
+
+// The record of standard input, written to standard output; where a read or a write fails it says so on standard error.
+pub fn write_standard_record(input: &mut InputBuffer, lines: &mut RecordBuffer) -> Recorded
+    ensures { λ r. ⌜ Records r (now (input .exit)) (now (lines .entry)) (now (lines .exit)) ⌝ }
+{
+    write_record(
+        STDIN_FILENO,
+        STDOUT_FILENO,
+        STDERR_FILENO,
+        32768,
+        input,
+        lines,
+    )
 }
