@@ -1,14 +1,14 @@
 -- What is known of an event that is not refused: each of the refusals 9 to 18 does not hold.
 -- Assumes nothing.
-use mathlib.Core.Path.{_≡_, refl, ap}
-use mathlib.Core.Logic.{_⊎_, inl, inr}
-use mathlib.Core.Bool.{true, false, not, _&&_}
+use mathlib.Core.Path.{_≡_}
+use native.Mathlib.Omega.{arith}
+use mathlib.Core.Bool.{true, false, not, _&&_, _||_}
 use Prim.Native.Nat.{ℕ, _≤_}
 use lib.Dec.{eqb}
 use borrow.Author.Tests.{eqb-true, not-false}
-use Rattle.basics.specs.Choice.{between, neither, between-true, if-zero}
+use Rattle.basics.specs.Choice.{between, between-true, if-zero}
 use Rattle.state.specs.declared.State.{State}
-use Rattle.state.specs.State.{read, write, isRank, isObject, mayLock, holds, holdsAlready, isActive, hasUnlocked, requestOf, isWaiting}
+use Rattle.state.specs.State.{read, write, isRank, isObject, mayLock, holdsAlready, isActive, hasUnlocked, requestOf, isWaiting}
 use Rattle.state.specs.WellFormed.{wellFormed}
 use Rattle.state.specs.Facts.{RequestFacts}
 use Rattle.refusals.specs.Refusals.{isRequest, modeOf, objectAllowed, eventRefusal, refusal}
@@ -19,7 +19,7 @@ pub record AcceptedEvent (s : State) (k r o : ℕ) : Type 0 where
   pub object : objectAllowed s k o ≡ true
   pub not-12 : eqb k 1 && isActive s r ≡ false
   pub not-13 : not (eqb k 1) && not (isActive s r) ≡ false
-  pub not-14 : between 2 5 k && isWaiting s r ≡ false
+  pub not-14 : (isRequest k || between 4 5 k) && isWaiting s r ≡ false
   pub not-15 : isRequest k && hasUnlocked s r ≡ false
   pub not-16 : isRequest k && not (mayLock s (modeOf k) r o) ≡ false
   pub not-17 : isRequest k && holdsAlready s (modeOf k) r o ≡ false
@@ -33,7 +33,7 @@ not-refused s k r o e =
     let e11 = if-zero 10 (not (objectAllowed s k o)) _ (e10 .1) in
     let e12 = if-zero 11 (eqb k 1 && isActive s r) _ (e11 .1) in
     let e13 = if-zero 12 (not (eqb k 1) && not (isActive s r)) _ (e12 .1) in
-    let e14 = if-zero 13 (between 2 5 k && isWaiting s r) _ (e13 .1) in
+    let e14 = if-zero 13 ((isRequest k || between 4 5 k) && isWaiting s r) _ (e13 .1) in
     let e15 = if-zero 14 (isRequest k && hasUnlocked s r) _ (e14 .1) in
     let e16 = if-zero 15 (isRequest k && not (mayLock s (modeOf k) r o)) _ (e15 .1) in
     let e17 = if-zero 16 (isRequest k && holdsAlready s (modeOf k) r o) _ (e16 .1) in
@@ -54,26 +54,24 @@ pub not-waiting : (s : State) (r : ℕ) → isWaiting s r ≡ false → requestO
 not-waiting s r e = eqb-true (requestOf s r) 0 (not-false (eqb (requestOf s r) 0) e)
 
 -- what the refusals 11, 13, 15, 16 and 17 leave of a request
-request-facts : (s : State) (m r o : ℕ) → (m ≡ read) ⊎ (m ≡ write) → isObject s o ≡ true → isActive s r ≡ true → hasUnlocked s r ≡ false
+request-facts : (s : State) (m r o : ℕ) → (read ≤ m) × (m ≤ write) → isObject s o ≡ true → isActive s r ≡ true → hasUnlocked s r ≡ false
     → mayLock s m r o ≡ true → holdsAlready s m r o ≡ false → RequestFacts s m r o
-request-facts s m r o mode object active not-unlocked right new =
-    let both = neither (holds s m r o) (holds s write r o) (ap not new) in
-    record {
-      mode = mode;
-      object = between-true 1 (s .objects) o object;
-      active = active;
-      not-unlocked = not-unlocked;
-      right = right;
-      not-held = both .0;
-      not-written = both .1;
-    }
+request-facts s m r o mode object active not-unlocked right new = record {
+  mode = mode;
+  object = between-true 1 (s .objects) o object;
+  active = active;
+  not-unlocked = not-unlocked;
+  right = right;
+  new = new;
+}
 
-pub read-facts : (s : State) (r o : ℕ) → AcceptedEvent s 2 r o → RequestFacts s read r o
-read-facts s r o A =
-    request-facts s read r o (inl refl) (A .object) (not-false (isActive s r) (A .not-13)) (A .not-15)
-    (not-false (mayLock s read r o) (A .not-16)) (A .not-17)
+module _ (s : State) (r o : ℕ) where
+  pub read-facts : AcceptedEvent s 2 r o → RequestFacts s read r o
+  read-facts A =
+      request-facts s read r o (omega arith, omega arith) (A .object) (not-false (isActive s r) (A .not-13)) (A .not-15)
+      (not-false (mayLock s read r o) (A .not-16)) (A .not-17)
 
-pub write-facts : (s : State) (r o : ℕ) → AcceptedEvent s 3 r o → RequestFacts s write r o
-write-facts s r o A =
-    request-facts s write r o (inr refl) (A .object) (not-false (isActive s r) (A .not-13)) (A .not-15)
-    (not-false (mayLock s write r o) (A .not-16)) (A .not-17)
+  pub write-facts : AcceptedEvent s 3 r o → RequestFacts s write r o
+  write-facts A =
+      request-facts s write r o (omega arith, omega arith) (A .object) (not-false (isActive s r) (A .not-13)) (A .not-15)
+      (not-false (mayLock s write r o) (A .not-16)) (A .not-17)

@@ -3,20 +3,20 @@
 use mathlib.Core.Path.{_≡_, refl, sym, subst, ap, ap₂, _∙_}
 use mathlib.Core.Logic.{_≢_, inl, inr}
 use mathlib.Core.Bool.{Bool, true, false}
-use Prim.Native.Nat.{ℕ, _≤_, min}
+use Prim.Native.Nat.{ℕ, _≤_, _<_, min}
 use native.Mathlib.Omega.{arith}
 use native.Mathlib.Decide.{ℕ-discrete}
 use Rattle.ranks.specs.Ranks.{member}
 use Rattle.ranks.specs.RankLaws.{member-with-same}
 use Rattle.state.specs.declared.State.{State}
-use Rattle.state.specs.State.{mostObjects, read, write, declared, holders, holds, isActive, hasUnlocked, requestedObject, objectOfRequest, grant}
+use Rattle.state.specs.State.{read, write, declared, holders, holds, isActive, hasUnlocked, requestedObject, objectOfRequest, grant}
 use Rattle.state.specs.Facts.{In, RequestFacts, Facts}
 use Rattle.state.specs.Changes.{overTable, Same, grant-others, grant-same}
-use Rattle.state.specs.Keeping.{NoConflict, read-granted, write-granted}
+use Rattle.state.specs.Keeping.{NoConflict, unheld, writable, read-granted, write-granted}
 use Rattle.weights.specs.Weights.{weight}
 use Rattle.theory.specs.Machine.{Passes, Took}
-use Rattle.promises.specs.Weights.{weightIf, read-own, read-writer, write-any, write-below-read, weight-small}
-use Rattle.promises.specs.Weights.{heldWeight, lockWeight, lock-below}
+use Rattle.promises.specs.Weights.{Mode, weightIf, read-own, read-writer, write-writer, write-any, write-below-read, weight-small}
+use Rattle.promises.specs.Weights.{lockWeight, lock-below}
 use Rattle.promises.specs.View.{asNumber}
 
 -- ---- of a job of which two states over one table say the same
@@ -51,50 +51,45 @@ module _ (s : State) (F : Facts s) (r : ℕ) (low : 1 ≤ r) (high : r ≤ s .jo
   -- a request that passes conflicts with no lock of another job: each such lock weighs at least as urgent as r
   pub no-conflict : NoConflict s m r o
   no-conflict = record {
-    no-writer = λ x d i.
-        omega (arith, pass x o (λ q. d (sym q)), lock-below s write x o (inr refl) i, write-any s m r x o (A .mode) (A .right));
-    no-reader = λ e x d i.
-        omega (
-          arith,
-          pass x o (λ q. d (sym q)),
-          lock-below s read x o (inl refl) i,
-          read-writer s r x o (subst (λ n. In (declared s n o) r) e (A .right)),
-        );
+    shares = λ x d i. omega (arith, meets x d write (inr refl) i, write-any s m r x o (A .right));
+    no-writer = λ k x d i. omega (arith, meets x d write (inr refl) i, write-writer s r x o (writable s F r low high m o A k));
+    no-reader = λ k x d i. omega (arith, meets x d read (inl refl) i, read-writer s r x o (writable s F r low high m o A k));
   }
-
-  object-fits : o ≤ mostObjects
-  object-fits = omega (arith, A .object, F .counts .objects)
+    where
+      meets : (x : ℕ) → r ≢ x → (n : ℕ) → Mode n → holds s n x o ≡ true → r < weight s n x o
+      meets x d n k i = omega (arith, pass x o (λ q. d (sym q)), lock-below s n x o k i)
 
   -- r's new lock weighs at least as urgent as r, and as what r held there before
   lighter : (lockWeight (overTable s (grant s m r o)) r o ≤ r) × (lockWeight (overTable s (grant s m r o)) r o ≤ lockWeight s r o)
-  lighter = elim (A .mode) [ inl e ↦ reading e | inr e ↦ writing e ]
+  lighter = elim (ℕ-discrete m read) [ yes e ↦ reading e | no d ↦ writing d ]
     where
       t : State
       t = overTable s (grant s m r o)
 
       reading : m ≡ read → (lockWeight t r o ≤ r) × (lockWeight t r o ≤ lockWeight s r o)
       reading e =
+          let none = unheld s F r low high m o A in
           let before : lockWeight s r o ≡ 256 =
           ap₂ (λ a b. min (weightIf a (weight s read r o)) (weightIf b (weight s write r o)))
-          (subst (λ n. holds s n r o ≡ false) e (A .not-held)) (A .not-written) in
+          (subst (λ n. holds s n r o ≡ false) e (none .0)) (none .1) in
           let new = lock-below t read r o (inl refl) (read-granted s F r low high m o A e .0) in
           (omega (arith, read-own t r o), omega (arith, weight-small t read r o))
 
-      writing : m ≡ write → (lockWeight t r o ≤ r) × (lockWeight t r o ≤ lockWeight s r o)
-      writing e =
-          let right = subst (λ n. In (declared s n o) r) e (A .right) in
+      writing : m ≢ read → (lockWeight t r o ≤ r) × (lockWeight t r o ≤ lockWeight s r o)
+      writing d =
+          let right = writable s F r low high m o A d in
           let held : holds t write r o ≡ true =
-          ap (λ v. member v r) (write-granted s F r low high m o A e .0) ∙ member-with-same (holders s write o) r low in
+          ap (λ v. member v r) (write-granted s F r low high m o A d .0) ∙ member-with-same (holders s write o) r low in
           let new = lock-below t write r o (inr refl) held in
-          let before : lockWeight s r o ≡ min (heldWeight s read r o) 256 =
-          ap (λ b. min (heldWeight s read r o) (weightIf b (weight s write r o))) (A .not-written) in (
-            omega (arith, table-weight s (grant s m r o) write r o, write-any s m r r o (A .mode) (A .right)),
-            omega (arith, table-weight s (grant s m r o) write r o, more (holds s read r o) right, weight-small s write r o),
-          )
+          (omega (arith, write-writer t r r o right), omega (arith, than-read (holds s read r o) right, than-write (holds s write r o)))
         where
-          more : (b : Bool) → In (declared s write o) r → weight s write r o ≤ weightIf b (weight s read r o)
-          more true i = write-below-read s r o i
-          more false i = omega (arith, weight-small s write r o)
+          than-read : (b : Bool) → In (declared s write o) r → weight t write r o ≤ weightIf b (weight s read r o)
+          than-read true i = omega (arith, write-below-read t r o i, table-weight s (grant s m r o) read r o)
+          than-read false i = omega (arith, weight-small t write r o)
+
+          than-write : (b : Bool) → weight t write r o ≤ weightIf b (weight s write r o)
+          than-write true = omega (arith, table-weight s (grant s m r o) write r o)
+          than-write false = omega (arith, weight-small t write r o)
 
   pub took-grant : Took (lockWeight s) (lockWeight (grant s m r o)) r o
   unfolding grant
@@ -109,7 +104,7 @@ module _ (s : State) (F : Facts s) (r : ℕ) (low : 1 ≤ r) (high : r ≤ s .jo
   }
     where
       other-job : (x : ℕ) → r ≢ x → Same s (grant s m r o) x
-      other-job = grant-same s r (F .sized) o (A .object .0) object-fits m
+      other-job = grant-same s F r m o A
 
       other-object : (x p : ℕ) → o ≢ p → (n : ℕ) → holds (grant s m r o) n x p ≡ holds s n x p
-      other-object x p d n = ap (λ v. member v x) (grant-others s r (F .sized) o (A .object .0) object-fits m n p d)
+      other-object x p d n = ap (λ v. member v x) (grant-others s F r m o A n p d)

@@ -15,7 +15,7 @@ use Rattle.state.specs.declared.State.{State}
 use Rattle.state.specs.State.{mostObjects, read, write, isActive, hasUnlocked, requestOf, objectOfRequest, requestedObject}
 use Rattle.state.specs.State.{activate, await, grant, release, endRun}
 use Rattle.state.specs.Facts.{RequestFacts, Facts}
-use Rattle.state.specs.Changes.{activate-same, await-same, await-request, grant-request, grant-same, end-request, end-same, end-none}
+use Rattle.state.specs.Changes.{activate-same, await-same, object-fits, await-request, grant-request, grant-same, end-request, end-same, end-none}
 use Rattle.state.specs.Changes.{release-others, release-none, release-same}
 use Rattle.state.specs.Keeping.{activate-keeps, await-keeps, release-keeps, end-keeps, grant-keeps}
 use Rattle.weights.specs.Keys.{keyHolder, keyObject, lowestKey}
@@ -57,7 +57,7 @@ module _ (s : State) (F : Facts s) (r : ℕ) (low : 1 ≤ r) (high : r ≤ s .jo
   unfolding activate
   start-goes o idle = (
     activate-keeps s F r low high idle,
-    start-step r o (λ x p. weight-frame s (activate s r) x p (λ m. refl)) (λ x. refl) active
+    start-step r o (λ x p. weight-frame s (activate s r) x p (λ m. refl)) (λ x. refl) (ap asNumber idle) active
         (λ x. elim (ℕ-discrete r x) [ yes e ↦ inr e | no d ↦ inl (active-frame s (activate s r) x (activate-same s r x d)) ]) (λ x. refl),
   )
     where
@@ -73,9 +73,6 @@ module _ (s : State) (F : Facts s) (r : ℕ) (low : 1 ≤ r) (high : r ≤ s .jo
       not-unlocked = ap asNumber (A .not-unlocked);
     }
 
-    object-fits : o ≤ mostObjects
-    object-fits = omega (arith, A .object, F .counts .objects)
-
     grant-goes : (mode : ℕ) → passes s r ≡ true → Goes s (labelled 2 r o mode 0) (grant s m r o)
     unfolding grant
     grant-goes mode e =
@@ -84,8 +81,8 @@ module _ (s : State) (F : Facts s) (r : ℕ) (low : 1 ≤ r) (high : r ≤ s .jo
           grant-step r o mode may (free none) (λ x. refl) (λ x. refl) (took-grant s F r low high m o A pass)
               (λ x. elim (ℕ-discrete r x) [
                 | yes q ↦ subst (λ y. requestedObject (grant s m r o) y ≡ requestedObject s y) q
-                    (ap objectOfRequest (grant-request s r (F .sized) low fits m o ∙ sym none))
-                | no d ↦ requested-frame s (grant s m r o) x (grant-same s r (F .sized) o (A .object .0) object-fits m x d)
+                    (ap objectOfRequest (grant-request s F r m o A ∙ sym none))
+                | no d ↦ requested-frame s (grant s m r o) x (grant-same s F r m o A x d)
               ]),
         )
 
@@ -95,7 +92,7 @@ module _ (s : State) (F : Facts s) (r : ℕ) (low : 1 ≤ r) (high : r ≤ s .jo
       await-keeps s F r low high m o A,
       wait-step r o mode may (free none) (λ x. refl) (λ x. refl) (A .object .0) (fails-blocked s F r small e)
           (λ x p. weight-frame s (await s m r o) x p (λ n. refl))
-          (ap objectOfRequest (await-request s r (F .sized) low fits m o) ∙ omega (arith, object-fits))
+          (ap objectOfRequest (await-request s F r m o A) ∙ omega (arith, object-fits s F r m o A))
           (λ x. elim (ℕ-discrete r x) [ yes q ↦ inr q | no d ↦ inl (requested-frame s (await s m r o) x (await-same s r m o x d)) ]),
     )
 
@@ -145,13 +142,13 @@ module _ (s : State) (F : Facts s) (r : ℕ) (low : 1 ≤ r) (high : r ≤ s .jo
       → Goes s (labelled what r o 0 (wakeable (endRun s r))) (woken (endRun s r) (wakeable (endRun s r)))
   unfolding endRun
   end-goes what o five six none =
-      let same = end-same s r (F .sized) in
+      let same = end-same s F r in
       let w = wake-keeps (endRun s r) (end-keeps s F r low high) in (
         w .0,
         end-step r o (wakeable (endRun s r)) (view (endRun s r)) (w .1) what five six (λ l. free (none l))
-            (λ p. no-weight (endRun s r) r p (λ m. end-none s r (F .sized) m p))
+            (λ p. no-weight (endRun s r) r p (λ m. end-none s F r m p))
             (λ x p. elim (ℕ-discrete r x) [ yes e ↦ inr e | no d ↦ inl (weight-frame s (endRun s r) x p (λ m. same x d .locks m p)) ])
-            (ap objectOfRequest (end-request s r (F .sized) low fits))
+            (ap objectOfRequest (end-request s F r low high))
             (λ x. elim (ℕ-discrete r x) [ yes e ↦ inr e | no d ↦ inl (requested-frame s (endRun s r) x (same x d)) ])
             (ap asNumber (member-without-same (s .active) r))
             (λ x. elim (ℕ-discrete r x) [ yes e ↦ inr e | no d ↦ inl (active-frame s (endRun s r) x (same x d)) ])

@@ -11,7 +11,7 @@ use borrow.Author.Tests.{eqb-false, ne-eqb, not-true}
 use Rattle.basics.specs.Choice.{if_then_else_}
 use Rattle.basics.specs.Loops.{all-zero-first}
 use Rattle.state.specs.declared.State.{State}
-use Rattle.state.specs.State.{mostObjects, requestOf, isWaiting, requestedMode, requestedObject, objectOfRequest, grant}
+use Rattle.state.specs.State.{requestOf, isWaiting, requestedMode, requestedObject, objectOfRequest, grant}
 use Rattle.state.specs.Facts.{RequestFacts, Facts}
 use Rattle.state.specs.WellFormedFacts.{waiting-rank}
 use Rattle.state.specs.Changes.{grant-request, grant-same}
@@ -60,13 +60,10 @@ module _ (s : State) where
       pass : Passes (lockWeight s) w
       pass = passes-all s F w (omega (arith, W .high, F .counts .jobs)) (wakes-is s w (W .low) (W .itself) .1)
 
-      fits : requestedObject s w ≤ mostObjects
-      fits = omega (arith, request .object, F .counts .objects)
-
       others-wait : (x : ℕ) → w ≢ x → requestedObject (grant s (requestedMode s w) w (requestedObject s w)) x ≡ requestedObject s x
       others-wait x d =
           requested-frame s (grant s (requestedMode s w) w (requestedObject s w)) x
-          (grant-same s w (F .sized) (requestedObject s w) (request .object .0) fits (requestedMode s w) x d)
+          (grant-same s F w (requestedMode s w) (requestedObject s w) request x d)
 
       one-keeps : Facts (grant s (requestedMode s w) w (requestedObject s w))
       one-keeps =
@@ -85,7 +82,7 @@ module _ (s : State) where
         ];
         took = λ a. took-grant s F w (W .low) (W .high) (requestedMode s w) (requestedObject s w) request pass;
         nobody = λ q. absurd (omega (arith, W .low));
-        served = λ a. ap objectOfRequest (grant-request s w (F .sized) (W .low) (omega (arith, W .high, F .counts .jobs)) (requestedMode s w) (requestedObject s w));
+        served = λ a. ap objectOfRequest (grant-request s F w (requestedMode s w) (requestedObject s w) request);
         requested-same = λ x. elim (ℕ-discrete w x) [ yes q ↦ inr (omega (arith, W .low), q) | no d ↦ inl (others-wait x d) ];
         active-same = λ x. refl;
         unlocked-same = λ x. refl;

@@ -46,20 +46,23 @@ module _ (s : State) where
   read-writer q r o i = omega (arith, first-least limit (declared s write o) q i)
 
   -- a write lock weighs at least as urgent as each job that may lock its object
-  pub write-any : (m q r o : ℕ) → Mode m → In (declared s m o) q → weight s write r o ≤ q
+  pub write-any : (m q r o : ℕ) → In (declared s m o) q → weight s write r o ≤ q
   unfolding weight
-  write-any m q r o (inl e) i =
-      first-least limit (union (declared s read o) (declared s write o)) q
-      (union-left (declared s read o) (declared s write o) q (subst (λ n. In (declared s n o) q) e i))
-  write-any m q r o (inr e) i =
-      first-least limit (union (declared s read o) (declared s write o)) q
-      (union-right (declared s read o) (declared s write o) q (subst (λ n. In (declared s n o) q) e i))
+  write-any m q r o =
+      either-mode (λ f. In (f (declared s read o) (declared s write o)) q → absoluteCeiling s o ≤ q)
+      (λ i. below (union-left (declared s read o) (declared s write o) q i)) (λ i. below (union-right (declared s read o) (declared s write o) q i)) m
+    where
+      below : In (union (declared s read o) (declared s write o)) q → absoluteCeiling s o ≤ q
+      below i = first-least limit (union (declared s read o) (declared s write o)) q i
+
+  pub write-writer : (q r o : ℕ) → In (declared s write o) q → weight s write r o ≤ q
+  write-writer q r o i = write-any write q r o i
 
   -- of one job's two locks on an object the write lock weighs more
   pub write-below-read : (r o : ℕ) → In (declared s write o) r → weight s write r o ≤ weight s read r o
   unfolding weight
   write-below-read r o i =
-      omega (arith, first-union limit (declared s read o) (declared s write o), write-any write r r o (inr refl) i)
+      omega (arith, first-union limit (declared s read o) (declared s write o), write-writer r r o i)
 
   pub weight-small : (m r o : ℕ) → weight s m r o ≤ 65
   unfolding weight

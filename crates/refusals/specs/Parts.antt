@@ -32,8 +32,6 @@ unfolding eventRefusal
 request-refusal s k r o low high =
     simp (
       inside-between 1 6 k (omega arith) (omega arith),
-      inside-between 2 4 k (omega arith) (omega arith),
-      inside-between 2 5 k (omega arith) (omega arith),
       inside-between 2 3 k low high,
       ne-eqb k 1 (λ e. omega arith),
       ne-eqb k 4 (λ e. omega arith),

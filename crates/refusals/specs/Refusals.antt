@@ -1,7 +1,7 @@
 -- The refusals 8 to 19 of events and questions (01, "Refusals by who can cause them"): "Order: 8, then as numbered."
 -- Assumes nothing.
 use Prim.Native.Nat.{ℕ, _-_}
-use mathlib.Core.Bool.{Bool, not, _&&_}
+use mathlib.Core.Bool.{Bool, not, _&&_, _||_}
 use lib.Dec.{eqb, ltb}
 use Rattle.basics.specs.Choice.{if_then_else_, _if_else_, between}
 use Rattle.state.specs.declared.State.{State}
@@ -19,7 +19,7 @@ modeOf k = k - 1
 
 -- "11 object out of range, or not 0 for kinds 1, 5, 6": what kind k may carry
 abbrev pub objectAllowed : State → ℕ → ℕ → Bool
-objectAllowed s k o = if between 2 4 k then isObject s o else eqb o 0
+objectAllowed s k o = if isRequest k || eqb k 4 then isObject s o else eqb o 0
 
 -- "9 kind not 1 to 6; 10 rank not 1 to the job count; 11 object out of range, or not 0 for kinds 1, 5, 6.
 -- 12 start of an active job; 13 another kind, or a question, for an idle job; 14 kinds 2 to 5 for a waiting job.
@@ -32,7 +32,7 @@ eventRefusal s k r o =
     11 if not (objectAllowed s k o) else
     12 if eqb k 1 && isActive s r else
     13 if not (eqb k 1) && not (isActive s r) else
-    14 if between 2 5 k && isWaiting s r else
+    14 if (isRequest k || between 4 5 k) && isWaiting s r else
     15 if isRequest k && hasUnlocked s r else
     16 if isRequest k && not (mayLock s (modeOf k) r o) else
     17 if isRequest k && holdsAlready s (modeOf k) r o else

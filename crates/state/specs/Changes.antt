@@ -15,8 +15,9 @@ use Rattle.ranks.specs.RankLaws.{member-with-other, member-without-same, member
 use Rattle.state.specs.declared.State.{State}
 use Rattle.state.specs.State.{mostObjects, read, write, holders, holds, isActive, hasUnlocked, requestOf, requestFor, withLocks}
 use Rattle.state.specs.State.{activate, await, grant, release, endRun}
-use Rattle.state.specs.Facts.{Sized}
+use Rattle.state.specs.Facts.{Sized, RequestFacts, Facts}
 use Rattle.state.specs.Modes.{either-mode}
+use Rattle.state.specs.WellFormedFacts.{active-rank}
 
 -- the locks of t over the table of s: every change of s is of this form
 abbrev pub overTable : State → State → State
@@ -83,122 +84,127 @@ module _ (s : State) (r : ℕ) where
     locks = λ n p. refl;
   }
 
-  -- ---- the request of the job itself
+-- ---- the release of one lock
 
-  module _ (Z : Sized s) (low : 1 ≤ r) (high : r ≤ limit) where
-    pub await-request : (m o : ℕ) → requestOf (await s m r o) r ≡ requestFor m o
-    unfolding await
-    await-request m o = at-put-same (s .request) r (requestFor m o) low (omega (arith, Z .request))
+module _ (s : State) (r : ℕ) (Z : Sized s) (o : ℕ) (low : 1 ≤ o) (high : o ≤ mostObjects) where
+  pub release-holders : (m : ℕ) → holders (release s r o) m o ≡ without (holders s m o) r
+  unfolding release
+  release-holders =
+      either-mode (λ f. f (at (release s r o .readers) o) (at (release s r o .writers) o) ≡ without (f (at (s .readers) o) (at (s .writers) o)) r)
+      (at-put-same (s .readers) o (without (at (s .readers) o) r) low (omega (arith, Z .readers)))
+      (at-put-same (s .writers) o (without (at (s .writers) o) r) low (omega (arith, Z .writers)))
 
-    pub grant-request : (m o : ℕ) → requestOf (grant s m r o) r ≡ 0
-    unfolding grant
-    grant-request m o = at-put-same (s .request) r 0 low (omega (arith, Z .request))
+  pub release-others : (m p : ℕ) → o ≢ p → holders (release s r o) m p ≡ holders s m p
+  unfolding release
+  release-others m p d =
+      either-mode (λ f. f (at (release s r o .readers) p) (at (release s r o .writers) p) ≡ f (at (s .readers) p) (at (s .writers) p))
+      (at-put-other (s .readers) o (without (at (s .readers) o) r) p d) (at-put-other (s .writers) o (without (at (s .writers) o) r) p d) m
 
-    pub end-request : requestOf (endRun s r) r ≡ 0
-    unfolding endRun
-    end-request = at-put-same (s .request) r 0 low (omega (arith, Z .request))
+  pub release-none : (m : ℕ) → holds (release s r o) m r o ≡ false
+  release-none m = ap (λ v. member v r) (release-holders m) ∙ member-without-same (holders s m o) r
 
-  -- ---- the end of a run
+  pub release-same : (x : ℕ) → r ≢ x → Same s (release s r o) x
+  unfolding release
+  release-same x d = record {
+    active = refl;
+    unlocked = member-with-other (s .unlocked) r x d;
+    request = refl;
+    locks = λ m p. elim (ℕ-discrete o p) [
+      | yes e ↦ subst (λ q. holds (release s r o) m x q ≡ holds s m x q) e
+          (ap (λ v. member v x) (release-holders m) ∙ member-without-other (holders s m o) r x d)
+      | no n ↦ ap (λ v. member v x) (release-others m p n)
+    ];
+  }
 
-  without-none : without 0 r ≡ 0
-  unfolding without
-  without-none = none r
+-- ---- the end of a run
+
+without-none : (r : ℕ) → without 0 r ≡ 0
+unfolding without
+without-none zero = refl
+without-none (suc i) = refl
+
+module _ (s : State) (F : Facts s) (r : ℕ) where
+  pub end-holders : (m o : ℕ) → holders (endRun s r) m o ≡ without (holders s m o) r
+  unfolding endRun
+  end-holders m o =
+      either-mode (λ f. f (at (endRun s r .readers) o) (at (endRun s r .writers) o) ≡ without (f (at (s .readers) o) (at (s .writers) o)) r)
+      (at-mapped (λ v. without v r) mostObjects (s .readers) o (without-none r) (F .sized .readers))
+      (at-mapped (λ v. without v r) mostObjects (s .writers) o (without-none r) (F .sized .writers)) m
+
+  pub end-same : (x : ℕ) → r ≢ x → Same s (endRun s r) x
+  unfolding endRun
+  end-same x d = record {
+    active = member-without-other (s .active) r x d;
+    unlocked = member-without-other (s .unlocked) r x d;
+    request = at-put-other (s .request) r 0 x d;
+    locks = λ m o. ap (λ v. member v x) (end-holders m o) ∙ member-without-other (holders s m o) r x d;
+  }
+
+  pub end-none : (m o : ℕ) → holds (endRun s r) m r o ≡ false
+  end-none m o = ap (λ v. member v r) (end-holders m o) ∙ member-without-same (holders s m o) r
+
+  pub end-request : 1 ≤ r → r ≤ s .jobs → requestOf (endRun s r) r ≡ 0
+  unfolding endRun
+  end-request low high = at-put-same (s .request) r 0 low (omega (arith, F .sized .request, F .counts .jobs))
+
+-- ---- a wait for what r may ask for, and a grant of it
+
+module _ (s : State) (F : Facts s) (r m o : ℕ) (A : RequestFacts s m r o) where
+  abbrev Z : Sized s
+  Z = F .sized
+
+  pub object-fits : o ≤ mostObjects
+  object-fits = omega (arith, A .object, F .counts .objects)
+
+  rank-fits : (1 ≤ r) × (r ≤ limit)
+  rank-fits = let rank = active-rank s F r (A .active) in (rank .0, omega (arith, rank .1, F .counts .jobs))
+
+  pub await-request : requestOf (await s m r o) r ≡ requestFor m o
+  unfolding await
+  await-request = at-put-same (s .request) r (requestFor m o) (rank-fits .0) (omega (arith, rank-fits .1, Z .request))
+
+  pub grant-request : requestOf (grant s m r o) r ≡ 0
+  unfolding grant
+  grant-request = at-put-same (s .request) r 0 (rank-fits .0) (omega (arith, rank-fits .1, Z .request))
+
+  pub grant-readers : holders (grant s m r o) read o ≡ readersAfter m r (holders s read o)
+  unfolding grant
+  grant-readers = at-put-same (s .readers) o (readersAfter m r (at (s .readers) o)) (A .object .0) (omega (arith, object-fits, Z .readers))
+
+  pub grant-writers : holders (grant s m r o) write o ≡ writersAfter m r (holders s write o)
+  unfolding grant
+  grant-writers = go (eqb m read)
     where
-      none : (r : ℕ) → without 0 r ≡ 0
-      none zero = refl
-      none (suc i) = refl
+      go : (b : Bool) → at (if b then s .writers else put (s .writers) o (with (at (s .writers) o) r)) o
+          ≡ (if b then at (s .writers) o else with (at (s .writers) o) r)
+      go true = refl
+      go false = at-put-same (s .writers) o (with (at (s .writers) o) r) (A .object .0) (omega (arith, object-fits, Z .writers))
 
-  module _ (Z : Sized s) where
-    pub end-holders : (m o : ℕ) → holders (endRun s r) m o ≡ without (holders s m o) r
-    unfolding endRun
-    end-holders m o =
-        either-mode (λ f. f (at (endRun s r .readers) o) (at (endRun s r .writers) o) ≡ without (f (at (s .readers) o) (at (s .writers) o)) r)
-        (at-mapped (λ v. without v r) mostObjects (s .readers) o without-none (Z .readers))
-        (at-mapped (λ v. without v r) mostObjects (s .writers) o without-none (Z .writers)) m
+  pub grant-others : (n p : ℕ) → o ≢ p → holders (grant s m r o) n p ≡ holders s n p
+  unfolding grant
+  grant-others n p d =
+      either-mode (λ f. f (at (grant s m r o .readers) p) (at (grant s m r o .writers) p) ≡ f (at (s .readers) p) (at (s .writers) p))
+      (at-put-other (s .readers) o (readersAfter m r (at (s .readers) o)) p d) (go (eqb m read)) n
+    where
+      go : (b : Bool) → at (if b then s .writers else put (s .writers) o (with (at (s .writers) o) r)) p ≡ at (s .writers) p
+      go true = refl
+      go false = at-put-other (s .writers) o (with (at (s .writers) o) r) p d
 
-    pub end-same : (x : ℕ) → r ≢ x → Same s (endRun s r) x
-    unfolding endRun
-    end-same x d = record {
-      active = member-without-other (s .active) r x d;
-      unlocked = member-without-other (s .unlocked) r x d;
-      request = at-put-other (s .request) r 0 x d;
-      locks = λ m o. ap (λ v. member v x) (end-holders m o) ∙ member-without-other (holders s m o) r x d;
-    }
-
-    pub end-none : (m o : ℕ) → holds (endRun s r) m r o ≡ false
-    end-none m o = ap (λ v. member v r) (end-holders m o) ∙ member-without-same (holders s m o) r
-
-    -- ---- the release of one lock, and a grant
-
-    module _ (o : ℕ) (low : 1 ≤ o) (high : o ≤ mostObjects) where
-      pub release-holders : (m : ℕ) → holders (release s r o) m o ≡ without (holders s m o) r
-      unfolding release
-      release-holders =
-          either-mode (λ f. f (at (release s r o .readers) o) (at (release s r o .writers) o) ≡ without (f (at (s .readers) o) (at (s .writers) o)) r)
-          (at-put-same (s .readers) o (without (at (s .readers) o) r) low (omega (arith, Z .readers)))
-          (at-put-same (s .writers) o (without (at (s .writers) o) r) low (omega (arith, Z .writers)))
-
-      pub release-others : (m p : ℕ) → o ≢ p → holders (release s r o) m p ≡ holders s m p
-      unfolding release
-      release-others m p d =
-          either-mode (λ f. f (at (release s r o .readers) p) (at (release s r o .writers) p) ≡ f (at (s .readers) p) (at (s .writers) p))
-          (at-put-other (s .readers) o (without (at (s .readers) o) r) p d) (at-put-other (s .writers) o (without (at (s .writers) o) r) p d) m
-
-      pub release-none : (m : ℕ) → holds (release s r o) m r o ≡ false
-      release-none m = ap (λ v. member v r) (release-holders m) ∙ member-without-same (holders s m o) r
-
-      pub release-same : (x : ℕ) → r ≢ x → Same s (release s r o) x
-      unfolding release
-      release-same x d = record {
-        active = refl;
-        unlocked = member-with-other (s .unlocked) r x d;
-        request = refl;
-        locks = λ m p. elim (ℕ-discrete o p) [
-          | yes e ↦ subst (λ q. holds (release s r o) m x q ≡ holds s m x q) e
-              (ap (λ v. member v x) (release-holders m) ∙ member-without-other (holders s m o) r x d)
-          | no n ↦ ap (λ v. member v x) (release-others m p n)
-        ];
-      }
-
-      module _ (m : ℕ) where
-        pub grant-readers : holders (grant s m r o) read o ≡ readersAfter m r (holders s read o)
-        unfolding grant
-        grant-readers = at-put-same (s .readers) o (readersAfter m r (at (s .readers) o)) low (omega (arith, Z .readers))
-
-        pub grant-writers : holders (grant s m r o) write o ≡ writersAfter m r (holders s write o)
-        unfolding grant
-        grant-writers = go (eqb m read)
-          where
-            go : (b : Bool) → at (if b then s .writers else put (s .writers) o (with (at (s .writers) o) r)) o
-                ≡ (if b then at (s .writers) o else with (at (s .writers) o) r)
-            go true = refl
-            go false = at-put-same (s .writers) o (with (at (s .writers) o) r) low (omega (arith, Z .writers))
-
-        pub grant-others : (n p : ℕ) → o ≢ p → holders (grant s m r o) n p ≡ holders s n p
-        unfolding grant
-        grant-others n p d =
-            either-mode (λ f. f (at (grant s m r o .readers) p) (at (grant s m r o .writers) p) ≡ f (at (s .readers) p) (at (s .writers) p))
-            (at-put-other (s .readers) o (readersAfter m r (at (s .readers) o)) p d) (go (eqb m read)) n
-          where
-            go : (b : Bool) → at (if b then s .writers else put (s .writers) o (with (at (s .writers) o) r)) p ≡ at (s .writers) p
-            go true = refl
-            go false = at-put-other (s .writers) o (with (at (s .writers) o) r) p d
-
-        pub grant-same : (x : ℕ) → r ≢ x → Same s (grant s m r o) x
-        unfolding grant
-        grant-same x d = record {
-          active = refl;
-          unlocked = refl;
-          request = at-put-other (s .request) r 0 x d;
-          locks = λ n p. elim (ℕ-discrete o p) [
-            | yes e ↦ subst (λ q. holds (grant s m r o) n x q ≡ holds s n x q) e (there n)
-            | no k ↦ ap (λ v. member v x) (grant-others n p k)
-          ];
-        }
-          where
-            there : (n : ℕ) → holds (grant s m r o) n x o ≡ holds s n x o
-            there =
-                either-mode (λ f. member (f (holders (grant s m r o) read o) (holders (grant s m r o) write o)) x
-                ≡ member (f (holders s read o) (holders s write o)) x)
-                (ap (λ v. member v x) grant-readers ∙ readers-after-other m r (holders s read o) x d)
-                (ap (λ v. member v x) grant-writers ∙ writers-after-other m r (holders s write o) x d)
+  pub grant-same : (x : ℕ) → r ≢ x → Same s (grant s m r o) x
+  unfolding grant
+  grant-same x d = record {
+    active = refl;
+    unlocked = refl;
+    request = at-put-other (s .request) r 0 x d;
+    locks = λ n p. elim (ℕ-discrete o p) [
+      | yes e ↦ subst (λ q. holds (grant s m r o) n x q ≡ holds s n x q) e (there n)
+      | no k ↦ ap (λ v. member v x) (grant-others n p k)
+    ];
+  }
+    where
+      there : (n : ℕ) → holds (grant s m r o) n x o ≡ holds s n x o
+      there =
+          either-mode (λ f. member (f (holders (grant s m r o) read o) (holders (grant s m r o) write o)) x
+          ≡ member (f (holders s read o) (holders s write o)) x)
+          (ap (λ v. member v x) grant-readers ∙ readers-after-other m r (holders s read o) x d)
+          (ap (λ v. member v x) grant-writers ∙ writers-after-other m r (holders s write o) x d)

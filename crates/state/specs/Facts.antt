@@ -2,13 +2,13 @@
 -- WellFormedFacts shows that it says the same as the test `wellFormed`.
 -- Assumes nothing.
 use mathlib.Core.Path.{_≡_}
-use mathlib.Core.Logic.{_≢_, _⊎_}
+use mathlib.Core.Logic.{_≢_}
 use mathlib.Core.Bool.{true, false}
 use Prim.Native.Nat.{ℕ, _^_, _≤_, _<_}
 use lib.ListN.{length}
 use Rattle.ranks.specs.Ranks.{limit, member}
 use Rattle.state.specs.declared.State.{State}
-use Rattle.state.specs.State.{mostObjects, read, write, isObject, processorOf, declared, holders, holds, hasUnlocked, requestOf, requestedMode, requestedObject}
+use Rattle.state.specs.State.{mostObjects, read, write, isObject, processorOf, declared, holders, holdsAlready, hasUnlocked, requestOf, requestedMode, requestedObject}
 use Rattle.state.specs.Clauses.{Within}
 
 -- the lengths that the arrays of the code's record always have
@@ -24,7 +24,7 @@ pub record Sized (s : State) : Type 0 where
 abbrev pub In : ℕ → ℕ → Type 0
 In set r = member set r ≡ true
 
--- "a write lock shares its object with no other", its holder's own read lock included
+-- at most one write lock on an object; "a write lock shares its object with no other"
 abbrev pub Alone : (readers writers : ℕ) → Type 0
 Alone readers writers = (a b : ℕ) → In writers a → (In writers b → a ≡ b) × (In readers b → ⊥)
 
@@ -33,17 +33,17 @@ pub record LockFacts (s : State) (o : ℕ) : Type 0 where
   pub jobs : (m : ℕ) → holders s m o < 2 ^ s .jobs
   pub active : (m r : ℕ) → In (holders s m o) r → In (s .active) r
   pub right : (m r : ℕ) → In (holders s m o) r → In (declared s m o) r
+  pub once : (r : ℕ) → In (holders s read o) r → In (holders s write o) r → ⊥
   pub alone : Alone (holders s read o) (holders s write o)
 
 -- "a waiting job is active, hasn't unlocked, and asks for a declared lock that 17 wouldn't refuse": of rank r and the lock on o in mode m
 pub record RequestFacts (s : State) (m r o : ℕ) : Type 0 where
-  pub mode : (m ≡ read) ⊎ (m ≡ write)
+  pub mode : (read ≤ m) × (m ≤ write)
   pub object : (1 ≤ o) × (o ≤ s .objects)
   pub active : In (s .active) r
   pub not-unlocked : hasUnlocked s r ≡ false
   pub right : In (declared s m o) r
-  pub not-held : holds s m r o ≡ false
-  pub not-written : holds s write r o ≡ false
+  pub new : holdsAlready s m r o ≡ false
 
 pub record Facts (s : State) : Type 0 where
   pub sized : Sized s

@@ -1,16 +1,16 @@
 -- Each change keeps the facts of a well-formed state: a start, a wait, a release, the end of a run; and a grant with which
 -- no other job's lock conflicts.
 -- Assumes nothing.
-use mathlib.Core.Path.{_≡_, sym, subst, ap, _∙_}
+use mathlib.Core.Path.{_≡_, sym, subst, ap, ap₂, _∙_}
 use mathlib.Core.Logic.{_≢_, _⊎_, inl, inr}
-use mathlib.Core.Bool.{Bool, true, false}
+use mathlib.Core.Bool.{Bool, true, false, not, _||_}
 use Prim.Native.Nat.{ℕ, _^_, _≤_, _<_}
 use native.Mathlib.Omega.{arith}
 use native.Mathlib.Decide.{ℕ-discrete}
 use lib.Dec.{eqb}
 use lib.ListN.{length}
 use borrow.Author.Tests.{eq-eqb, ne-eqb}
-use Rattle.basics.specs.Choice.{if_then_else_, clash}
+use Rattle.basics.specs.Choice.{if_then_else_, clash, neither}
 use Rattle.basics.specs.Arrays.{put, length-put, length-mapped}
 use Rattle.ranks.specs.Ranks.{limit, member, with, without}
 use Rattle.ranks.specs.RankLaws.{member-with-same, member-with-other, member-without-same, member-without-other, with-lt, without-lt}
@@ -34,6 +34,12 @@ without-in set r x i = elim (ℕ-discrete r x) [
   | no d ↦ (sym (member-without-other set r x d) ∙ i, d)
 ]
 
+pub with-grows : (set r x : ℕ) → 1 ≤ r → In set x → In (with set r) x
+with-grows set r x low i = elim (ℕ-discrete r x) [
+  | yes e ↦ subst (λ n. In (with set r) n) e (member-with-same set r low)
+  | no d ↦ member-with-other set r x d ∙ i
+]
+
 -- ---- the locks of t over the table of s
 
 module _ (s t : State) where
@@ -44,6 +50,7 @@ module _ (s t : State) where
     jobs = small;
     active = λ m x i. fewer m x i .1 (L .active m x (fewer m x i .0));
     right = λ m x i. L .right m x (fewer m x i .0);
+    once = λ x i j. L .once x (fewer read x i .0) (fewer write x j .0);
     alone = λ a b i. let f = L .alone a b (fewer write a i .0) in (λ j. f .0 (fewer write b j .0), λ j. f .1 (fewer read b j .0));
   }
 
@@ -54,8 +61,7 @@ module _ (s t : State) where
     active = S .active ∙ A .active;
     not-unlocked = S .unlocked ∙ A .not-unlocked;
     right = A .right;
-    not-held = S .locks m o ∙ A .not-held;
-    not-written = S .locks write o ∙ A .not-written;
+    new = ap₂ _||_ (S .locks m o) (S .locks write o) ∙ A .new;
   }
 
   module _ (F : Facts s) where
@@ -111,10 +117,7 @@ module _ (s : State) (F : Facts s) (r : ℕ) (low : 1 ≤ r) (high : r ≤ s .jo
       (λ d. absurd (clash (F .requests r d .active) idle)) (activate-same s r)
     where
       grows : (x : ℕ) → In (s .active) x → In (with (s .active) r) x
-      grows x i = elim (ℕ-discrete r x) [
-        | yes e ↦ subst (λ n. In (with (s .active) r) n) e (member-with-same (s .active) r low)
-        | no d ↦ member-with-other (s .active) r x d ∙ i
-      ]
+      grows x = with-grows (s .active) r x low
 
   pub await-keeps : (m o : ℕ) → RequestFacts s m r o → Facts (await s m r o)
   unfolding await
@@ -128,7 +131,7 @@ module _ (s : State) (F : Facts s) (r : ℕ) (low : 1 ≤ r) (high : r ≤ s .jo
       waits =
           let mode : m ≡ modeOfRequest (requestFor m o) = omega (arith, A .object, F .counts .objects) in
           let object : o ≡ objectOfRequest (requestFor m o) = omega (arith, A .object, F .counts .objects) in
-          subst (λ q. RequestFacts (await s m r o) (modeOfRequest q) r (objectOfRequest q)) (sym (await-request s r Z low rank-fits m o))
+          subst (λ q. RequestFacts (await s m r o) (modeOfRequest q) r (objectOfRequest q)) (sym (await-request s F r m o A))
           (subst (λ p. RequestFacts (await s m r o) (modeOfRequest (requestFor m o)) r p) object
           (subst (λ n. RequestFacts (await s m r o) n r o) mode
           (record {
@@ -137,8 +140,7 @@ module _ (s : State) (F : Facts s) (r : ℕ) (low : 1 ≤ r) (high : r ≤ s .jo
             active = A .active;
             not-unlocked = A .not-unlocked;
             right = A .right;
-            not-held = A .not-held;
-            not-written = A .not-written;
+            new = A .new;
           })))
 
   -- a set of holders of p in mode m that is a part of what it was
@@ -169,12 +171,12 @@ module _ (s : State) (F : Facts s) (r : ℕ) (low : 1 ≤ r) (high : r ≤ s .jo
       keep s (endRun s r) F r (length-mapped (λ v. without v r) mostObjects (s .readers) ∙ F .sized .readers)
       (length-mapped (λ v. without v r) mostObjects (s .writers) ∙ F .sized .writers) (length-put (s .request) r 0 ∙ F .sized .request)
       (λ o. fewer-locks s (endRun s r) o
-      (λ m. subst (λ v. v < 2 ^ s .jobs) (sym (end-holders s r Z m o)) (without-lt (s .jobs) (holders s m o) r (F .locks o .jobs m)))
-      (λ m x i. (let z = without-in (holders s m o) r x (sym (ap (λ v. member v x) (end-holders s r Z m o)) ∙ i) in (z .0, stays x (z .1))))
+      (λ m. subst (λ v. v < 2 ^ s .jobs) (sym (end-holders s F r m o)) (without-lt (s .jobs) (holders s m o) r (F .locks o .jobs m)))
+      (λ m x i. (let z = without-in (holders s m o) r x (sym (ap (λ v. member v x) (end-holders s F r m o)) ∙ i) in (z .0, stays x (z .1))))
       (F .locks o))
       (without-lt (s .jobs) (s .active) r (F .active-jobs)) (without-lt (s .jobs) (s .unlocked) r (F .marks-jobs))
       (λ x i. (let z = without-in (s .unlocked) r x i in stays x (z .1) (F .marks x (z .0))))
-      (λ d. absurd (d (end-request s r Z low rank-fits))) (end-same s r Z)
+      (λ d. absurd (d (end-request s F r low high))) (end-same s F r)
     where
       stays : (x : ℕ) → r ≢ x → In (s .active) x → In (without (s .active) r) x
       stays x d i = member-without-other (s .active) r x d ∙ i
@@ -183,18 +185,23 @@ module _ (s : State) (F : Facts s) (r : ℕ) (low : 1 ≤ r) (high : r ≤ s .jo
 
 -- no lock of another job on o conflicts with one of r in mode m: "either is a write"
 pub record NoConflict (s : State) (m r o : ℕ) : Type 0 where
-  pub no-writer : (x : ℕ) → r ≢ x → In (holders s write o) x → ⊥
-  pub no-reader : m ≡ write → (x : ℕ) → r ≢ x → In (holders s read o) x → ⊥
+  pub shares : (x : ℕ) → r ≢ x → In (holders s write o) x → ⊥
+  pub no-writer : m ≢ read → (x : ℕ) → r ≢ x → In (holders s write o) x → ⊥
+  pub no-reader : m ≢ read → (x : ℕ) → r ≢ x → In (holders s read o) x → ⊥
 
 module _ (s : State) (F : Facts s) (r : ℕ) (low : 1 ≤ r) (high : r ≤ s .jobs) (m o : ℕ) (A : RequestFacts s m r o) where
-  object-fits : o ≤ mostObjects
-  object-fits = omega (arith, A .object, F .counts .objects)
+  -- r holds neither that lock nor the write lock
+  pub unheld : (holds s m r o ≡ false) × (holds s write r o ≡ false)
+  unheld = neither (holds s m r o) (holds s write r o) (ap not (A .new))
+
+  pub writable : m ≢ read → In (declared s write o) r
+  writable d = subst (λ b. In (if b then declared s read o else declared s write o) r) (ne-eqb m read d) (A .right)
 
   readers-after : holders (grant s m r o) read o ≡ readersAfter m r (holders s read o)
-  readers-after = grant-readers s r (F .sized) o (A .object .0) object-fits m
+  readers-after = grant-readers s F r m o A
 
   writers-after : holders (grant s m r o) write o ≡ writersAfter m r (holders s write o)
-  writers-after = grant-writers s r (F .sized) o (A .object .0) object-fits m
+  writers-after = grant-writers s F r m o A
 
   -- a read lock: r joins the readers, the writers stay
   pub read-granted : m ≡ read → (holds (grant s m r o) read r o ≡ true) × (holders (grant s m r o) write o ≡ holders s write o)
@@ -206,10 +213,10 @@ module _ (s : State) (F : Facts s) (r : ℕ) (low : 1 ≤ r) (high : r ≤ s .jo
       )
 
   -- a write lock: r joins the writers, and leaves the readers
-  pub write-granted : m ≡ write
+  pub write-granted : m ≢ read
       → (holders (grant s m r o) write o ≡ with (holders s write o) r) × (holders (grant s m r o) read o ≡ without (holders s read o) r)
   write-granted e =
-      let q : eqb m read ≡ false = ne-eqb m read (λ z. omega arith) in (
+      let q = ne-eqb m read e in (
         writers-after ∙ ap (λ b. if b then holders s write o else with (holders s write o) r) q,
         readers-after ∙ ap (λ b. if b then with (holders s read o) r else without (holders s read o) r) q,
       )
@@ -226,40 +233,57 @@ module _ (s : State) (F : Facts s) (r : ℕ) (low : 1 ≤ r) (high : r ≤ s .jo
       (subst (λ v. v < 2 ^ s .jobs) (sym writers-after) (writers-after-lt m r (holders s write o) (s .jobs) (F .locks o .jobs write) high))
 
   granted-right : (n : ℕ) → In (holders (grant s m r o) n o) r → In (declared s n o) r
-  granted-right = elim (A .mode) [
-    | inl e ↦ granted-either (λ v right. In v r → In right r)
+  granted-right = elim (ℕ-discrete m read) [
+    | yes e ↦ granted-either (λ v right. In v r → In right r)
         (λ i. subst (λ n. In (declared s n o) r) e (A .right))
         (λ i. F .locks o .right write r (ap (λ v. member v r) (sym (read-granted e .1)) ∙ i))
-    | inr e ↦ granted-either (λ v right. In v r → In right r)
+    | no e ↦ granted-either (λ v right. In v r → In right r)
         (λ i. absurd (clash i (ap (λ v. member v r) (write-granted e .1) ∙ member-without-same (holders s read o) r)))
-        (λ i. subst (λ n. In (declared s n o) r) e (A .right))
+        (λ i. writable e)
   ]
 
   module _ (N : NoConflict s m r o) where
-    -- nobody writes o before the grant
-    unwritten : (x : ℕ) → In (holders s write o) x → ⊥
-    unwritten x i = elim (ℕ-discrete r x) [
-      | yes e ↦ clash (subst (λ y. In (holders s write o) y) (sym e) i) (A .not-written)
-      | no d ↦ N .no-writer x d i
+    -- where r is given a read lock
+    module _ (e : m ≡ read) where
+      reading : (x : ℕ) → In (holders (grant s m r o) read o) x → (r ≡ x) ⊎ In (holders s read o) x
+      reading x i =
+          with-in (holders s read o) r x
+          (ap (λ v. member v x) (sym (readers-after ∙ ap (λ b. if b then with (holders s read o) r else without (holders s read o) r) (eq-eqb m read e))) ∙ i)
+
+      unwritten : (x : ℕ) → In (holders s write o) x → r ≢ x
+      unwritten x i q = clash (subst (λ y. In (holders s write o) y) (sym q) i) (unheld .1)
+
+      written : (x : ℕ) → In (holders (grant s m r o) write o) x → In (holders s write o) x
+      written x i = ap (λ v. member v x) (sym (read-granted e .1)) ∙ i
+
+    -- where r is given a write lock
+    module _ (d : m ≢ read) where
+      others-reading : (x : ℕ) → In (holders (grant s m r o) read o) x → In (holders s read o) x × (r ≢ x)
+      others-reading x i = without-in (holders s read o) r x (ap (λ v. member v x) (sym (write-granted d .1)) ∙ i)
+
+      own : (x : ℕ) → In (holders (grant s m r o) write o) x → r ≡ x
+      own x j = elim (with-in (holders s write o) r x (ap (λ v. member v x) (sym (write-granted d .0)) ∙ j)) [
+        | inl q ↦ q
+        | inr q ↦ elim (ℕ-discrete r x) [ yes e ↦ e | no k ↦ absurd (N .no-writer d x k q) ]
+      ]
+
+    granted-once : (x : ℕ) → In (holders (grant s m r o) read o) x → In (holders (grant s m r o) write o) x → ⊥
+    granted-once x i j = elim (ℕ-discrete m read) [
+      | yes e ↦ elim (reading e x i) [ inl q ↦ unwritten e x (written e x j) q | inr k ↦ F .locks o .once x k (written e x j) ]
+      | no d ↦ others-reading d x i .1 (own d x j)
     ]
 
     granted-alone : Alone (holders (grant s m r o) read o) (holders (grant s m r o) write o)
-    granted-alone a b i = go (A .mode)
-      where
-        go : (m ≡ read) ⊎ (m ≡ write) → (In (holders (grant s m r o) write o) b → a ≡ b) × (In (holders (grant s m r o) read o) b → ⊥)
-        go (inl e) = absurd (unwritten a (ap (λ v. member v a) (sym (read-granted e .1)) ∙ i))
-        go (inr e) = (
-          λ j. sym (own a i) ∙ own b j,
-          λ j.
-              let z = without-in (holders s read o) r b (ap (λ v. member v b) (sym (write-granted e .1)) ∙ j) in
-              N .no-reader e b (z .1) (z .0),
-        )
-          where
-            own : (x : ℕ) → In (holders (grant s m r o) write o) x → r ≡ x
-            own x j = elim (with-in (holders s write o) r x (ap (λ v. member v x) (sym (write-granted e .0)) ∙ j)) [
-              | inl q ↦ q
-              | inr q ↦ absurd (unwritten x q)
-            ]
+    granted-alone a b i = elim (ℕ-discrete m read) [
+      | yes e ↦
+          let i' = written e a i in
+          let before = F .locks o .alone a b i' in
+          (
+            λ j. before .0 (written e b j),
+            λ j. elim (reading e b j) [ inl k ↦ N .shares a (unwritten e a i') i' | inr k ↦ before .1 k ],
+          )
+      | no d ↦ (λ j. sym (own d a i) ∙ own d b j, λ j. (let z = others-reading d b j in N .no-reader d b (z .1) (z .0)))
+    ]
 
     granted-locks : (p : ℕ) → LockFacts (overTable s (grant s m r o)) p
     unfolding grant
@@ -274,6 +298,7 @@ module _ (s : State) (F : Facts s) (r : ℕ) (low : 1 ≤ r) (high : r ≤ s .jo
           | yes q ↦ subst (λ y. In (holders (grant s m r o) n o) y → In (declared s n o) y) q (granted-right n) i
           | no d ↦ F .locks o .right n x (sym (same x d .locks n o) ∙ i)
         ];
+        once = granted-once;
         alone = granted-alone;
       })
       | no d ↦ fewer-locks s (grant s m r o) p (λ n. omega (arith, others n p d, F .locks p .jobs n))
@@ -281,18 +306,18 @@ module _ (s : State) (F : Facts s) (r : ℕ) (low : 1 ≤ r) (high : r ≤ s .jo
     ]
       where
         same : (x : ℕ) → r ≢ x → Same s (grant s m r o) x
-        same = grant-same s r (F .sized) o (A .object .0) object-fits m
+        same = grant-same s F r m o A
 
         others : (n p : ℕ) → o ≢ p → holders (grant s m r o) n p ≡ holders s n p
-        others = grant-others s r (F .sized) o (A .object .0) object-fits m
+        others = grant-others s F r m o A
 
     pub grant-keeps : Facts (grant s m r o)
     unfolding grant
     grant-keeps =
         keep s (grant s m r o) F r (length-put (s .readers) o (readersAfter m r (holders s read o)) ∙ F .sized .readers)
         (long (eqb m read)) (length-put (s .request) r 0 ∙ F .sized .request) granted-locks (F .active-jobs) (F .marks-jobs) (F .marks)
-        (λ d. absurd (d (grant-request s r (F .sized) low (omega (arith, F .counts .jobs)) m o)))
-        (grant-same s r (F .sized) o (A .object .0) object-fits m)
+        (λ d. absurd (d (grant-request s F r m o A)))
+        (grant-same s F r m o A)
       where
         long : (b : Bool) → length (if b then s .writers else put (s .writers) o (with (holders s write o) r)) ≡ mostObjects
         long true = F .sized .writers

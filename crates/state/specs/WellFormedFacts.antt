@@ -4,7 +4,7 @@
 use mathlib.Core.Path.{_≡_, refl, sym, ap, _∙_}
 use mathlib.Core.Logic.{_≢_, _⊎_, inl, inr, ⊎-elim}
 use mathlib.Core.Bool.{Bool, true, false, not, _&&_, _||_}
-use Prim.Native.Nat.{ℕ, zero, suc, _^_, _≤_, _<_}
+use Prim.Native.Nat.{ℕ, _^_, _≤_, _<_}
 use native.Mathlib.Nat.{eq-zero-or-pos}
 use native.Mathlib.Omega.{arith}
 use native.Mathlib.Decide.{ℕ-discrete, decLe}
@@ -12,11 +12,11 @@ use lib.Dec.{eqb}
 use lib.Pow.{pow-pos}
 use lib.Bits.{or-add-and, and-le-l, and-le-r}
 use borrow.Author.Tests.{eqb-true, eq-eqb, ne-eqb, ltb-true, lt-ltb, not-true}
-use Rattle.basics.specs.Choice.{between, clash, and-true, and-left, and-right, or-right, neither, between-true, inside-between}
+use Rattle.basics.specs.Choice.{between, clash, and-true, and-left, and-right, or-right, between-true, inside-between}
 use Rattle.basics.specs.Loops.{every, every-at, every-true}
 use Rattle.basics.specs.Arrays.{at, at-out}
 use Rattle.ranks.specs.Ranks.{limit, member, first, union, subset, atMostOne}
-use Rattle.ranks.specs.RankLaws.{member-pos, member-le, member-empty, first-some, first-member, subset-member, member-subset}
+use Rattle.ranks.specs.RankLaws.{member-pos, member-le, member-empty, first-some, first-member, subset-member, member-subset, disjoint-member}
 use Rattle.ranks.specs.RankLaws.{member-disjoint, one-member, member-one}
 use Rattle.ranks.specs.UnionLaws.{union-left, union-right, union-either, union-lt, subset-le, empty-union}
 use Rattle.state.specs.declared.State.{State}
@@ -99,7 +99,7 @@ module _ (s : State) (F : Facts s) where
   once-test : (o : ℕ) → lockedOnce s o ≡ true
   once-test o =
       let L = F .locks o in
-      member-disjoint (s .jobs) (holders s read o) (holders s write o) (L .jobs read) (λ r l i j. L .alone r r j .1 i)
+      member-disjoint (s .jobs) (holders s read o) (holders s write o) (L .jobs read) (λ r l. L .once r)
 
   alone-test : (o : ℕ) → writtenAlone s o ≡ true
   alone-test o =
@@ -108,11 +108,11 @@ module _ (s : State) (F : Facts s) where
 
   request-test : (m r o : ℕ) → RequestFacts s m r o → mayAwait s m r o ≡ true
   request-test m r o A =
-      let known : between read write m ≡ true = elim (A .mode) [
-        | inl e ↦ inside-between read write m (omega arith) (omega arith)
-        | inr e ↦ inside-between read write m (omega arith) (omega arith)
-      ] in
-      simp (known, inside-between 1 (s .objects) o (A .object .0) (A .object .1), A .active, A .not-unlocked, A .right, A .not-held, A .not-written)
+      let known = inside-between read write m (A .mode .0) (A .mode .1) in
+      let object = inside-between 1 (s .objects) o (A .object .0) (A .object .1) in
+      let asks : between read write m && isObject s o && isActive s r && not (hasUnlocked s r) && mayLock s m r o ≡ true =
+      simp (known, object, A .active, A .not-unlocked, A .right) in
+      and-true _ _ asks (ap not (A .new))
 
   wait-test : (r : ℕ) → waitFits s r ≡ true
   wait-test r = elim (ℕ-discrete (requestOf s r) 0) [
@@ -199,7 +199,7 @@ module _ (s : State) (z : Sized s) (w : wellFormed s ≡ true) where
 
   -- the locks on an object of the arrays
   inside-locks : (o : ℕ) → 1 ≤ o → o ≤ mostObjects → LockFacts s o
-  unfolding locksFit writersAlone
+  unfolding locksFit oneLockEach writersAlone
   inside-locks o a b =
       let byActive = every-at mostObjects (heldByActive s) o (and-left _ _ (C .locks)) a b in
       let byRight = every-at mostObjects (heldByRight s) o (and-right (every mostObjects (heldByActive s)) _ (C .locks)) a b in
@@ -216,6 +216,7 @@ module _ (s : State) (z : Sized s) (w : wellFormed s ≡ true) where
         jobs = λ m. omega (arith, subset-le (holders s m o) (declared s m o) (right m), declared-fact m o);
         active = active;
         right = λ m r i. subset-member (holders s m o) (declared s m o) r (right m) i;
+        once = λ r. disjoint-member reading writing r (every-at mostObjects (lockedOnce s) o (C .once) a b);
         alone = true-alone reading writing (every-at mostObjects (writtenAlone s) o (C .alone) a b);
       }
 
@@ -224,6 +225,7 @@ module _ (s : State) (z : Sized s) (w : wellFormed s ≡ true) where
     jobs = λ m. omega (arith, past-holders m o d, pow-pos (s .jobs));
     active = λ m r i. absurd (none-in (holders s m o) r (past-holders m o d) i);
     right = λ m r i. absurd (none-in (holders s m o) r (past-holders m o d) i);
+    once = λ r i. absurd (none-in (holders s read o) r (past-holders read o d) i);
     alone = λ a b i. absurd (none-in (holders s write o) a (past-holders write o d) i);
   }
 
@@ -238,22 +240,14 @@ module _ (s : State) (z : Sized s) (w : wellFormed s ≡ true) where
       let e4 = and-left t4 (mayLock s m r o) e5 in
       let e3 = and-left t3 (not (hasUnlocked s r)) e4 in
       let e2 = and-left t2 (isActive s r) e3 in
-      let known = between-true read write m (and-left t1 (isObject s o) e2) in
-      let new = neither (holds s m r o) (holds s write r o) (and-right t5 (not (holdsAlready s m r o)) e) in
       record {
-        mode = which m (known .0) (known .1);
+        mode = between-true read write m (and-left t1 (isObject s o) e2);
         object = between-true 1 (s .objects) o (and-right t1 (isObject s o) e2);
         active = and-right t2 (isActive s r) e3;
         not-unlocked = not-true (hasUnlocked s r) (and-right t3 (not (hasUnlocked s r)) e4);
         right = and-right t4 (mayLock s m r o) e5;
-        not-held = new .0;
-        not-written = new .1;
+        new = not-true (holdsAlready s m r o) (and-right t5 (not (holdsAlready s m r o)) e);
       }
-    where
-      which : (m : ℕ) → 1 ≤ m → m ≤ 2 → (m ≡ 1) ⊎ (m ≡ 2)
-      which zero a b = absurd (omega arith)
-      which (suc zero) a b = inl refl
-      which (suc (suc m)) a b = inr (omega arith)
 
   waiting-fact : (r : ℕ) → requestOf s r ≢ 0 → RequestFacts s (requestedMode s r) r (requestedObject s r)
   unfolding waitsFit

@@ -24,7 +24,7 @@ pub record Woke (m : View) (w : ℕ) (s' : View) : Type 0 where
 module _ {N : ℕ} {s s' : View} where
   -- an event that releases nothing and searches for nobody
   quiet-step : (l : Label) → l .what ≤ 3 → l .woken ≡ 0
-      → (l .what ≡ 1 → s' .active (l .job) ≢ 0)
+      → (l .what ≡ 1 → (s .active (l .job) ≡ 0) × (s' .active (l .job) ≢ 0))
       → (2 ≤ l .what → MayRequest N s (l .job) × (s .requested (l .job) ≡ 0))
       → (l .what ≡ 2 → Took (s .weight) (s' .weight) (l .job) (l .object))
       → (l .what ≡ 3 → (0 < l .object) × (s' .requested (l .job) ≡ l .object) × Blocked (s .weight) (l .job))
@@ -60,10 +60,10 @@ module _ {N : ℕ} {s s' : View} where
       (λ x. inl (active x)) unlocked
 
   pub start-step : (j o : ℕ) → ((r p : ℕ) → s' .weight r p ≡ s .weight r p) → ((x : ℕ) → s' .requested x ≡ s .requested x)
-      → s' .active j ≢ 0 → ((x : ℕ) → (s' .active x ≡ s .active x) ⊎ (j ≡ x))
+      → s .active j ≡ 0 → s' .active j ≢ 0 → ((x : ℕ) → (s' .active x ≡ s .active x) ⊎ (j ≡ x))
       → ((x : ℕ) → s' .unlocked x ≡ s .unlocked x) → Step N s (labelled 1 j o 0 0) s'
-  start-step j o weight requested started active unlocked =
-      quiet-step (labelled 1 j o 0 0) (omega arith) refl (λ a. started) (λ a. absurd (omega arith))
+  start-step j o weight requested idle started active unlocked =
+      quiet-step (labelled 1 j o 0 0) (omega arith) refl (λ a. (idle, started)) (λ a. absurd (omega arith))
       (λ a. absurd (omega arith)) (λ a. absurd (omega arith)) (λ a. weight) (λ x. inl (requested x))
       (λ x. elim (active x) [ inl e ↦ inl e | inr e ↦ inr (inl (omega arith)) ]) unlocked
 

@@ -187,7 +187,7 @@ module _ {N : ℕ} {s : View} {l : Label} {s' : View} (S : Step N s l s') where
     active' : (x : ℕ) → ¬ Ends l x → s .active x ≢ 0 → s' .active x ≢ 0
     active' x n b = elim (S .active-same x) [
       | inl e ↦ omega arith
-      | inr t ↦ elim t [ inl u ↦ rw (u .of-job) at (S .start (u .start-done)) | inr e ↦ absurd (n e) ]
+      | inr t ↦ elim t [ inl u ↦ rw (u .of-job) at (S .start (u .start-done) .1) | inr e ↦ absurd (n e) ]
     ]
 
     -- whoever waits after the event has not unlocked in it

@@ -110,6 +110,37 @@ module _ {N : ℕ} {view : ℕ → View} {label : ℕ → Label} (T : Trace N vi
       go ih (inr (inl v)) = (t, record { begun = omega arith; starts = v; not-ended = nothing-between (EndsRun label j) t })
       go ih (inr (inr v)) = absurd (stays v)
 
+  pub run-active : (j k t : ℕ) → Run label j k t → view t .active j ≢ 0
+  run-active j k zero r = absurd (omega (arith, r .begun))
+  run-active j k (suc t) r = elim (ℕ-discrete k t) [
+    | yes e ↦ started (subst (λ n. Starts (label n) j) e (r .starts))
+    | no d ↦
+        let l : k < t = omega (arith, r .begun) in
+        later l (run-active j k t (run-before label j k t (suc t) r l (omega arith))) (T .step t .active-same j)
+  ]
+    where
+      started : Starts (label t) j → view (suc t) .active j ≢ 0
+      started v = rw (v .of-job) at (T .step t .start (v .start-done) .1)
+
+      later : k < t → view t .active j ≢ 0
+          → (view (suc t) .active j ≡ view t .active j) ⊎ (Starts (label t) j ⊎ Ends (label t) j)
+          → view (suc t) .active j ≢ 0
+      later l h (inl e) = omega arith
+      later l h (inr (inl v)) = started v
+      later l h (inr (inr v)) = absurd (r .not-ended t l (omega arith) v)
+
+  -- runs of one job don't overlap: only an idle job is started
+  not-started-later : (j k k' t : ℕ) → Run label j k t → Run label j k' t → ¬ (k < k')
+  not-started-later j k k' t r r' l =
+      let u = r' .starts in
+      run-active j k k' (run-before label j k k' t r l (omega (arith, r' .begun))) (rw (u .of-job) at (T .step k' .start (u .start-done) .0))
+
+  pub one-run : (j k k' t : ℕ) → Run label j k t → Run label j k' t → k ≡ k'
+  one-run j k k' t r r' = elim (decLt k k') [
+    | yes l ↦ absurd (not-started-later j k k' t r r' l)
+    | no l ↦ elim (decLt k' k) [ yes h ↦ absurd (not-started-later j k' k t r' r h) | no h ↦ omega arith ]
+  ]
+
   pub unlocked-on : (j o i t : ℕ) → i < t → Unlocks (label i) j o → Never (EndsRun label j) i t → view t .unlocked j ≢ 0
   unlocked-on j o i zero l u q = absurd (omega arith)
   unlocked-on j o i (suc t) l u q = elim (ℕ-discrete i t) [

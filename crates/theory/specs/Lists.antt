@@ -32,12 +32,12 @@ module _ {State Event : Type 0} (next : State → Event → State) (label : Stat
       pub seen : (s : State) → Good s → Seen N M (view s)
 
     module _ {N M : ℕ} {Good : State → Type 0} (G : Manages N M Good) where
-      good-at : (s : State) → Good s → (es : List Event) (t : ℕ) → Good (stateAt s es t)
+      pub good-at : (s : State) → Good s → (es : List Event) (t : ℕ) → Good (stateAt s es t)
       good-at s g es zero = g
       good-at s g [] (suc t) = g
       good-at s g (e ∷ es) (suc t) = good-at (next s e) (G .keeps s e g) es t
 
-      step-at : (s : State) → Good s → (es : List Event) (t : ℕ)
+      pub step-at : (s : State) → Good s → (es : List Event) (t : ℕ)
           → Step N (view (stateAt s es t)) (labelAt s es t) (view (stateAt s es (suc t)))
       step-at s g [] zero = refused-step (view s) 0 0
       step-at s g [] (suc t) = refused-step (view s) 0 0

@@ -70,7 +70,7 @@ pub record Step (N : ℕ) (s : View) (l : Label) (s' : View) : Type 0 where
   pub afterRelease : ℕ → ℕ → ℕ
   pub release : (r p : ℕ) → (afterRelease r p ≡ s .weight r p) ⊎ Releases l r p
   -- each kind of answer
-  pub start : l .what ≡ 1 → s' .active (l .job) ≢ 0
+  pub start : l .what ≡ 1 → (s .active (l .job) ≡ 0) × (s' .active (l .job) ≢ 0)
   pub request : 2 ≤ l .what → l .what ≤ 3 → MayRequest N s (l .job) × (s .requested (l .job) ≡ 0)
   pub grant : l .what ≡ 2 → Took afterRelease (s' .weight) (l .job) (l .object)
   pub wait : l .what ≡ 3 → (0 < l .object) × (s' .requested (l .job) ≡ l .object) × Blocked (s .weight) (l .job)

@@ -27,7 +27,7 @@ numbers : (c : tie.Start) → eventRefusal (whole c 0 []) (c .args .kind) (c .ar
     → (1 ≤ c .args .rank) × (c .args .rank ≤ limit) × (1 ≤ c .args .object) × (c .args .object ≤ mostObjects)
 numbers c e =
     let n = accepted-numbers (whole c 0 []) (c .args .kind) (c .args .rank) (c .args .object) e in
-    let o = between-true 1 (c .args .objects) (c .args .object) (simp (inside-between 2 4 (c .args .kind) (c .pre .2) (omega (arith, c .pre .3))) at (n .2)) in
+    let o = between-true 1 (c .args .objects) (c .args .object) (simp (inside-between 2 3 (c .args .kind) (c .pre .2) (c .pre .3)) at (n .2)) in
     (n .0, omega (arith, n .1, c .pre), o .0, omega (arith, o .1, c .pre))
 
 lock-refusal-requires : tie.Need-lock-refusal-requires
