@@ -3,20 +3,20 @@ ghost use mathlib.Core.Path.{_≡_};
 ghost use Prim.Native.Nat.{_≤_};
 ghost use Rattle.basics.specs.Arrays.{put};
 ghost use Rattle.ranks.specs.Ranks as R;
-ghost use Rattle.state.specs.State.{modeOfRequest, objectOfRequest, grantReaders, grantWriters, releaseSet, releaseSets};
+ghost use Rattle.state.specs.State.{mostJobs, mostObjects, modeOfRequest, objectOfRequest, grantReaders, grantWriters, releaseSet, releaseSets};
 use state::JobRequests;
-use state::ObjectSets;
+use state::SetsMut;
 
 // Gives the rank its lock on the object, and ends its wait; a write lock replaces its read lock.
 pub fn grant(
-    readers: &mut ObjectSets,
-    writers: &mut ObjectSets,
+    readers: SetsMut,
+    writers: SetsMut,
     request: &mut JobRequests,
     mode: u8,
     rank: u8,
     object: u8,
 )
-    requires { ⌜ (1 ≤ rank) × (rank ≤ 64) × (1 ≤ object) × (object ≤ 128) ⌝ }
+    requires { ⌜ (1 ≤ rank) × (rank ≤ mostJobs) × (1 ≤ object) × (object ≤ mostObjects) ⌝ }
     ensures { λ _. ⌜ (now (readers .exit) ≡ grantReaders mode rank object (now (readers .entry)))
         × (now (writers .exit) ≡ grantWriters mode rank object (now (writers .entry)))
         × (now (request .exit) ≡ put (now (request .entry)) rank 0) ⌝ }
@@ -35,8 +35,8 @@ pub fn grant(
 }
 
 // Takes the rank out of the object's set.
-pub fn release_set(sets: &mut ObjectSets, rank: u8, object: u8)
-    requires { ⌜ (1 ≤ rank) × (rank ≤ 64) × (1 ≤ object) × (object ≤ 128) ⌝ }
+pub fn release_set(sets: SetsMut, rank: u8, object: u8)
+    requires { ⌜ (1 ≤ rank) × (rank ≤ mostJobs) × (1 ≤ object) × (object ≤ mostObjects) ⌝ }
     ensures { λ _. ⌜ now (sets .exit) ≡ releaseSet rank object (now (sets .entry)) ⌝ }
 {
     let i = (object - 1) as usize;
@@ -44,8 +44,8 @@ pub fn release_set(sets: &mut ObjectSets, rank: u8, object: u8)
 }
 
 // Takes the rank out of every set.
-pub fn release_sets(sets: &mut ObjectSets, rank: u8)
-    requires { ⌜ (1 ≤ rank) × (rank ≤ 64) ⌝ }
+pub fn release_sets(sets: SetsMut, rank: u8)
+    requires { ⌜ (1 ≤ rank) × (rank ≤ mostJobs) ⌝ }
     ensures { λ _. ⌜ now (sets .exit) ≡ releaseSets rank (now (sets .entry)) ⌝ }
 {
     let mut i: usize = 0;
@@ -71,7 +71,7 @@ pub fn object_of_request(request: u16) -> u8
 
 // Stores the rank's request.
 pub fn store_request(requests: &mut JobRequests, rank: u8, request: u16)
-    requires { ⌜ (1 ≤ rank) × (rank ≤ 64) ⌝ }
+    requires { ⌜ (1 ≤ rank) × (rank ≤ mostJobs) ⌝ }
     ensures { λ _. ⌜ now (requests .exit) ≡ put (now (requests .entry)) rank request ⌝ }
 {
     let j = (rank - 1) as usize;

@@ -11,9 +11,8 @@ use lib.ListN.{length}
 use borrow.Author.Tests.{eq-eqb, ne-eqb, ltb-false, le-leb, lt-leb}
 use Rattle.basics.specs.Choice.{between, inside-between}
 use Rattle.basics.specs.Arrays.{at, put, at-put-same, at-put-other, at-out, length-put}
-use Rattle.ranks.specs.Ranks.{limit}
 use Rattle.state.specs.declared.State.{State}
-use Rattle.state.specs.State.{mostObjects, requestedMode, requestedObject, activate, await, grant}
+use Rattle.state.specs.State.{mostJobs, mostObjects, requestedMode, requestedObject, activate, await, grant}
 use Rattle.weights.specs.Keys.{Weigh, keyWeight, keyHolder, keyObject, lowestKeyBy}
 use Rattle.weights.specs.KeyLaws.{key-at}
 use Rattle.rule.specs.Granting.{passesBelow, reason, wakeable}
@@ -68,8 +67,8 @@ unfolding requestMeeting
 waits s m r o k e = simp e
 
 -- the key that stops a request is a lock's: its holder and its object are in range
-pub stopped : (weigh : Weigh) (s : State) (j k : ℕ) → k ≡ lowestKeyBy weigh s j → passesBelow j k ≡ false → j ≤ limit → s .objects ≤ mostObjects
-    → (1 ≤ keyHolder k) × (keyHolder k ≤ limit) × (keyObject k ≤ mostObjects)
+pub stopped : (weigh : Weigh) (s : State) (j k : ℕ) → k ≡ lowestKeyBy weigh s j → passesBelow j k ≡ false → j ≤ mostJobs → s .counts .objects ≤ mostObjects
+    → (1 ≤ keyHolder k) × (keyHolder k ≤ mostJobs) × (keyObject k ≤ mostObjects)
 stopped weigh s j k e fails l n = elim (key-at weigh s j) [
   | inl z ↦ absurd (omega (arith, e, z, ltb-false j (keyWeight k) fails))
   | inr w ↦ (let r = w .lock .rank in let o = w .lock .object in omega (arith, e, w .is, r, o))

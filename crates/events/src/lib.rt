@@ -2,7 +2,7 @@
 ghost use mathlib.Core.Path.{_≡_};
 ghost use mathlib.Core.List.{List};
 ghost use Prim.Native.Nat.{ℕ, _≤_};
-ghost use Rattle.state.specs.State.{stateOf};
+ghost use Rattle.state.specs.State.{mostJobs, mostObjects, write, stateOf};
 ghost use Rattle.refusals.specs.Accepting.{RequestsFit, InRange};
 ghost use Rattle.events.specs.Events as E;
 use changes::grant;
@@ -17,8 +17,10 @@ use refusals::lock_refusal;
 use refusals::set_of;
 use refusals::start_refusal;
 use refusals::unlock_refusal;
+use state::Counts;
 use state::JobRequests;
-use state::ObjectSets;
+use state::Sets;
+use state::SetsMut;
 use state::State;
 
 // An event's answer: granted; waits for the lock of a holder on an object, with the reason; done, with the woken rank or 0; refused, with its number.
@@ -36,13 +38,13 @@ pub struct Outcome {
 }
 
 // Kind 1: the job becomes active.
-fn start(jobs: u8, active: &mut RankSet, rank: u8, object: u8) -> Answer
-    requires { ⌜ jobs ≤ 64 ⌝ }
-    ensures { λ r. ⌜ ((p o u : ℕ) (ps mr mw rs ws q : List ℕ) →
-        E.outcome r (stateOf p jobs o ps mr mw (now (active .exit)) u rs ws q)
-        ≡ E.perform (stateOf p jobs o ps mr mw (now (active .entry)) u rs ws q) 1 rank object) ⌝ }
+fn start(counts: Counts, active: &mut RankSet, rank: u8, object: u8) -> Answer
+    requires { ⌜ counts .jobs ≤ mostJobs ⌝ }
+    ensures { λ r. ⌜ ((u : ℕ) (ps mr mw rs ws q : List ℕ) →
+        E.outcome r (stateOf counts ps mr mw (now (active .exit)) u rs ws q)
+        ≡ E.perform (stateOf counts ps mr mw (now (active .entry)) u rs ws q) 1 rank object) ⌝ }
 {
-    let number = start_refusal(jobs, *active, rank, object);
+    let number = start_refusal(counts, *active, rank, object);
     if number != 0 {
         return Answer::Refused(number);
     }
@@ -52,22 +54,22 @@ fn start(jobs: u8, active: &mut RankSet, rank: u8, object: u8) -> Answer
 
 // A request that is not refused: the job gets the lock on the object in the mode, or waits for it.
 fn grant_or_wait<'a>(
-    objects: u8,
-    may_read: &'a ObjectSets,
-    may_write: &'a ObjectSets,
-    readers: &mut ObjectSets,
-    writers: &mut ObjectSets,
+    counts: Counts,
+    may_read: Sets<'a>,
+    may_write: Sets<'a>,
+    readers: SetsMut,
+    writers: SetsMut,
     request: &mut JobRequests,
     mode: u8,
     rank: u8,
     object: u8,
 ) -> Answer
-    requires { ⌜ (objects ≤ 128) × (mode ≤ 2) × (1 ≤ rank) × (rank ≤ 64) × (1 ≤ object) × (object ≤ 128) ⌝ }
-    ensures { λ r. ⌜ ((p j a u : ℕ) (ps : List ℕ) →
-        E.outcome r (stateOf p j objects ps (now («may_read» .entry)) (now («may_write» .entry)) a u (now (readers .exit)) (now (writers .exit)) (now (request .exit)))
-        ≡ E.request (stateOf p j objects ps (now («may_read» .entry)) (now («may_write» .entry)) a u (now (readers .entry)) (now (writers .entry)) (now (request .entry))) mode rank object) ⌝ }
+    requires { ⌜ (counts .objects ≤ mostObjects) × (mode ≤ write) × (1 ≤ rank) × (rank ≤ mostJobs) × (1 ≤ object) × (object ≤ mostObjects) ⌝ }
+    ensures { λ r. ⌜ ((a u : ℕ) (ps : List ℕ) →
+        E.outcome r (stateOf counts ps (now («may_read» .entry)) (now («may_write» .entry)) a u (now (readers .exit)) (now (writers .exit)) (now (request .exit)))
+        ≡ E.request (stateOf counts ps (now («may_read» .entry)) (now («may_write» .entry)) a u (now (readers .entry)) (now (writers .entry)) (now (request .entry))) mode rank object) ⌝ }
 {
-    let key = weights::lowest_key(objects, may_read, may_write, readers, writers, rank);
+    let key = weights::lowest_key(counts, may_read, may_write, readers, writers, rank);
     if rule::passes(rank, key) {
         grant(readers, writers, request, mode, rank, object);
         return Answer::Granted;
@@ -92,27 +94,25 @@ fn grant_or_wait<'a>(
 
 // Kinds 2 and 3: the job gets the lock, or waits for it.
 fn lock<'a>(
-    jobs: u8,
-    objects: u8,
-    may_read: &'a ObjectSets,
-    may_write: &'a ObjectSets,
+    counts: Counts,
+    may_read: Sets<'a>,
+    may_write: Sets<'a>,
     active: RankSet,
     unlocked: RankSet,
-    readers: &mut ObjectSets,
-    writers: &mut ObjectSets,
+    readers: SetsMut,
+    writers: SetsMut,
     request: &mut JobRequests,
     kind: u8,
     rank: u8,
     object: u8,
 ) -> Answer
-    requires { ⌜ (jobs ≤ 64) × (objects ≤ 128) × (2 ≤ kind) × (kind ≤ 3) ⌝ }
-    ensures { λ r. ⌜ ((p : ℕ) (ps : List ℕ) →
-        E.outcome r (stateOf p jobs objects ps (now («may_read» .entry)) (now («may_write» .entry)) active unlocked (now (readers .exit)) (now (writers .exit)) (now (request .exit)))
-        ≡ E.perform (stateOf p jobs objects ps (now («may_read» .entry)) (now («may_write» .entry)) active unlocked (now (readers .entry)) (now (writers .entry)) (now (request .entry))) kind rank object) ⌝ }
+    requires { ⌜ (counts .jobs ≤ mostJobs) × (counts .objects ≤ mostObjects) × (2 ≤ kind) × (kind ≤ 3) ⌝ }
+    ensures { λ r. ⌜ ((ps : List ℕ) →
+        E.outcome r (stateOf counts ps (now («may_read» .entry)) (now («may_write» .entry)) active unlocked (now (readers .exit)) (now (writers .exit)) (now (request .exit)))
+        ≡ E.perform (stateOf counts ps (now («may_read» .entry)) (now («may_write» .entry)) active unlocked (now (readers .entry)) (now (writers .entry)) (now (request .entry))) kind rank object) ⌝ }
 {
     let number = lock_refusal(
-        jobs,
-        objects,
+        counts,
         may_read,
         may_write,
         active,
@@ -128,7 +128,7 @@ fn lock<'a>(
         return Answer::Refused(number);
     }
     grant_or_wait(
-        objects,
+        counts,
         may_read,
         may_write,
         readers,
@@ -142,28 +142,19 @@ fn lock<'a>(
 
 // After kinds 4, 5 and 6: the most urgent waiting job whose request passes gets its lock.
 fn wake<'a>(
-    jobs: u8,
-    objects: u8,
-    may_read: &'a ObjectSets,
-    may_write: &'a ObjectSets,
-    readers: &mut ObjectSets,
-    writers: &mut ObjectSets,
+    counts: Counts,
+    may_read: Sets<'a>,
+    may_write: Sets<'a>,
+    readers: SetsMut,
+    writers: SetsMut,
     request: &mut JobRequests,
 ) -> Answer
-    requires { ⌜ (jobs ≤ 64) × (objects ≤ 128) × RequestsFit (now request) ⌝ }
-    ensures { λ r. ⌜ ((p a u : ℕ) (ps : List ℕ) →
-        E.outcome r (stateOf p jobs objects ps (now («may_read» .entry)) (now («may_write» .entry)) a u (now (readers .exit)) (now (writers .exit)) (now (request .exit)))
-        ≡ E.wake (stateOf p jobs objects ps (now («may_read» .entry)) (now («may_write» .entry)) a u (now (readers .entry)) (now (writers .entry)) (now (request .entry)))) ⌝ }
+    requires { ⌜ (counts .jobs ≤ mostJobs) × (counts .objects ≤ mostObjects) × RequestsFit (now request) ⌝ }
+    ensures { λ r. ⌜ ((a u : ℕ) (ps : List ℕ) →
+        E.outcome r (stateOf counts ps (now («may_read» .entry)) (now («may_write» .entry)) a u (now (readers .exit)) (now (writers .exit)) (now (request .exit)))
+        ≡ E.wake (stateOf counts ps (now («may_read» .entry)) (now («may_write» .entry)) a u (now (readers .entry)) (now (writers .entry)) (now (request .entry)))) ⌝ }
 {
-    let rank = rule::wakeable(
-        jobs,
-        objects,
-        may_read,
-        may_write,
-        readers,
-        writers,
-        request,
-    );
+    let rank = rule::wakeable(counts, may_read, may_write, readers, writers, request);
     if rank != 0 {
         let asked = request[(rank - 1) as usize];
         grant(
@@ -180,111 +171,82 @@ fn wake<'a>(
 
 // Kind 4: the job gives up its lock on the object, and is marked.
 fn unlock<'a>(
-    jobs: u8,
-    objects: u8,
-    may_read: &'a ObjectSets,
-    may_write: &'a ObjectSets,
+    counts: Counts,
+    may_read: Sets<'a>,
+    may_write: Sets<'a>,
     active: RankSet,
     unlocked: &mut RankSet,
-    readers: &mut ObjectSets,
-    writers: &mut ObjectSets,
+    readers: SetsMut,
+    writers: SetsMut,
     request: &mut JobRequests,
     rank: u8,
     object: u8,
 ) -> Answer
-    requires { ⌜ InRange jobs objects (now request) ⌝ }
-    ensures { λ r. ⌜ ((p : ℕ) (ps : List ℕ) →
-        E.outcome r (stateOf p jobs objects ps (now («may_read» .entry)) (now («may_write» .entry)) active (now (unlocked .exit)) (now (readers .exit)) (now (writers .exit)) (now (request .exit)))
-        ≡ E.perform (stateOf p jobs objects ps (now («may_read» .entry)) (now («may_write» .entry)) active (now (unlocked .entry)) (now (readers .entry)) (now (writers .entry)) (now (request .entry))) 4 rank object) ⌝ }
+    requires { ⌜ InRange counts (now request) ⌝ }
+    ensures { λ r. ⌜ ((ps : List ℕ) →
+        E.outcome r (stateOf counts ps (now («may_read» .entry)) (now («may_write» .entry)) active (now (unlocked .exit)) (now (readers .exit)) (now (writers .exit)) (now (request .exit)))
+        ≡ E.perform (stateOf counts ps (now («may_read» .entry)) (now («may_write» .entry)) active (now (unlocked .entry)) (now (readers .entry)) (now (writers .entry)) (now (request .entry))) 4 rank object) ⌝ }
 {
-    let number = unlock_refusal(
-        jobs,
-        objects,
-        active,
-        readers,
-        writers,
-        request,
-        rank,
-        object,
-    );
+    let number = unlock_refusal(counts, active, readers, writers, request, rank, object);
     if number != 0 {
         return Answer::Refused(number);
     }
     *unlocked = ranks::with(*unlocked, rank);
     release_set(readers, rank, object);
     release_set(writers, rank, object);
-    wake(
-        jobs,
-        objects,
-        may_read,
-        may_write,
-        readers,
-        writers,
-        request,
-    )
+    wake(counts, may_read, may_write, readers, writers, request)
 }
 
 // The job's run ends, with its locks and its request.
 fn end_run<'a>(
-    jobs: u8,
-    objects: u8,
-    may_read: &'a ObjectSets,
-    may_write: &'a ObjectSets,
+    counts: Counts,
+    may_read: Sets<'a>,
+    may_write: Sets<'a>,
     active: &mut RankSet,
     unlocked: &mut RankSet,
-    readers: &mut ObjectSets,
-    writers: &mut ObjectSets,
+    readers: SetsMut,
+    writers: SetsMut,
     request: &mut JobRequests,
     rank: u8,
 ) -> Answer
-    requires { ⌜ (jobs ≤ 64) × (objects ≤ 128) × (1 ≤ rank) × (rank ≤ 64) × RequestsFit (now request) ⌝ }
-    ensures { λ r. ⌜ ((p : ℕ) (ps : List ℕ) →
-        E.outcome r (stateOf p jobs objects ps (now («may_read» .entry)) (now («may_write» .entry)) (now (active .exit)) (now (unlocked .exit)) (now (readers .exit)) (now (writers .exit)) (now (request .exit)))
-        ≡ E.finish (stateOf p jobs objects ps (now («may_read» .entry)) (now («may_write» .entry)) (now (active .entry)) (now (unlocked .entry)) (now (readers .entry)) (now (writers .entry)) (now (request .entry))) rank) ⌝ }
+    requires { ⌜ (counts .jobs ≤ mostJobs) × (counts .objects ≤ mostObjects) × (1 ≤ rank) × (rank ≤ mostJobs) × RequestsFit (now request) ⌝ }
+    ensures { λ r. ⌜ ((ps : List ℕ) →
+        E.outcome r (stateOf counts ps (now («may_read» .entry)) (now («may_write» .entry)) (now (active .exit)) (now (unlocked .exit)) (now (readers .exit)) (now (writers .exit)) (now (request .exit)))
+        ≡ E.finish (stateOf counts ps (now («may_read» .entry)) (now («may_write» .entry)) (now (active .entry)) (now (unlocked .entry)) (now (readers .entry)) (now (writers .entry)) (now (request .entry))) rank) ⌝ }
 {
     *active = ranks::without(*active, rank);
     *unlocked = ranks::without(*unlocked, rank);
     release_sets(readers, rank);
     release_sets(writers, rank);
     store_request(request, rank, 0);
-    wake(
-        jobs,
-        objects,
-        may_read,
-        may_write,
-        readers,
-        writers,
-        request,
-    )
+    wake(counts, may_read, may_write, readers, writers, request)
 }
 
 // Kinds 5 and 6: the job's run ends; an abandonment also ends that of a waiting job.
 fn finish<'a>(
-    jobs: u8,
-    objects: u8,
-    may_read: &'a ObjectSets,
-    may_write: &'a ObjectSets,
+    counts: Counts,
+    may_read: Sets<'a>,
+    may_write: Sets<'a>,
     active: &mut RankSet,
     unlocked: &mut RankSet,
-    readers: &mut ObjectSets,
-    writers: &mut ObjectSets,
+    readers: SetsMut,
+    writers: SetsMut,
     request: &mut JobRequests,
     kind: u8,
     rank: u8,
     object: u8,
 ) -> Answer
-    requires { ⌜ InRange jobs objects (now request) × (5 ≤ kind) × (kind ≤ 6) ⌝ }
-    ensures { λ r. ⌜ ((p : ℕ) (ps : List ℕ) →
-        E.outcome r (stateOf p jobs objects ps (now («may_read» .entry)) (now («may_write» .entry)) (now (active .exit)) (now (unlocked .exit)) (now (readers .exit)) (now (writers .exit)) (now (request .exit)))
-        ≡ E.perform (stateOf p jobs objects ps (now («may_read» .entry)) (now («may_write» .entry)) (now (active .entry)) (now (unlocked .entry)) (now (readers .entry)) (now (writers .entry)) (now (request .entry))) kind rank object) ⌝ }
+    requires { ⌜ InRange counts (now request) × (5 ≤ kind) × (kind ≤ 6) ⌝ }
+    ensures { λ r. ⌜ ((ps : List ℕ) →
+        E.outcome r (stateOf counts ps (now («may_read» .entry)) (now («may_write» .entry)) (now (active .exit)) (now (unlocked .exit)) (now (readers .exit)) (now (writers .exit)) (now (request .exit)))
+        ≡ E.perform (stateOf counts ps (now («may_read» .entry)) (now («may_write» .entry)) (now (active .entry)) (now (unlocked .entry)) (now (readers .entry)) (now (writers .entry)) (now (request .entry))) kind rank object) ⌝ }
 {
-    let number = finish_refusal(jobs, *active, request, kind, rank, object);
+    let number = finish_refusal(counts, *active, request, kind, rank, object);
     if number != 0 {
         return Answer::Refused(number);
     }
     end_run(
-        jobs,
-        objects,
+        counts,
         may_read,
         may_write,
         active,
@@ -298,29 +260,27 @@ fn finish<'a>(
 
 // An event in a well-formed state: the rule of its kind; 9 where it has none.
 pub fn perform<'a>(
-    jobs: u8,
-    objects: u8,
-    may_read: &'a ObjectSets,
-    may_write: &'a ObjectSets,
+    counts: Counts,
+    may_read: Sets<'a>,
+    may_write: Sets<'a>,
     active: &mut RankSet,
     unlocked: &mut RankSet,
-    readers: &mut ObjectSets,
-    writers: &mut ObjectSets,
+    readers: SetsMut,
+    writers: SetsMut,
     request: &mut JobRequests,
     kind: u8,
     rank: u8,
     object: u8,
 ) -> Answer
-    requires { ⌜ InRange jobs objects (now request) ⌝ }
-    ensures { λ r. ⌜ ((p : ℕ) (ps : List ℕ) →
-        E.outcome r (stateOf p jobs objects ps (now («may_read» .entry)) (now («may_write» .entry)) (now (active .exit)) (now (unlocked .exit)) (now (readers .exit)) (now (writers .exit)) (now (request .exit)))
-        ≡ E.perform (stateOf p jobs objects ps (now («may_read» .entry)) (now («may_write» .entry)) (now (active .entry)) (now (unlocked .entry)) (now (readers .entry)) (now (writers .entry)) (now (request .entry))) kind rank object) ⌝ }
+    requires { ⌜ InRange counts (now request) ⌝ }
+    ensures { λ r. ⌜ ((ps : List ℕ) →
+        E.outcome r (stateOf counts ps (now («may_read» .entry)) (now («may_write» .entry)) (now (active .exit)) (now (unlocked .exit)) (now (readers .exit)) (now (writers .exit)) (now (request .exit)))
+        ≡ E.perform (stateOf counts ps (now («may_read» .entry)) (now («may_write» .entry)) (now (active .entry)) (now (unlocked .entry)) (now (readers .entry)) (now (writers .entry)) (now (request .entry))) kind rank object) ⌝ }
 {
     match kind {
-        1 => start(jobs, active, rank, object),
+        1 => start(counts, active, rank, object),
         2 | 3 => lock(
-            jobs,
-            objects,
+            counts,
             may_read,
             may_write,
             *active,
@@ -333,8 +293,7 @@ pub fn perform<'a>(
             object,
         ),
         4 => unlock(
-            jobs,
-            objects,
+            counts,
             may_read,
             may_write,
             *active,
@@ -346,8 +305,7 @@ pub fn perform<'a>(
             object,
         ),
         5 | 6 => finish(
-            jobs,
-            objects,
+            counts,
             may_read,
             may_write,
             active,

@@ -20,7 +20,7 @@ use Rattle.inheritance.specs.Running.{inheritedFrom, inheritedRank, isRe
 
 -- each job's element is the rank that it names
 abbrev pub NamedBy : List ℕ → State → Type 0
-NamedBy named s = (r : ℕ) → 1 ≤ r → r ≤ s .jobs → at named r ≡ namedHolder s r
+NamedBy named s = (r : ℕ) → 1 ≤ r → r ≤ s .counts .jobs → at named r ≡ namedHolder s r
 
 -- r if it names j, else j
 abbrev pub heir : ℕ → ℕ → ℕ → ℕ
@@ -52,15 +52,15 @@ names-waiting s j r p = go (isWaiting s r) refl
     go false e = let none : eqb 0 j ≡ false = ne-eqb 0 j (λ z. omega arith) in rw (e, none)
 
 module _ (named : List ℕ) (s : State) (by : NamedBy named s) where
-  pub inherited-by : (j : ℕ) → 1 ≤ j → inheritedBy (s .jobs) named j ≡ inheritedRank s j
+  pub inherited-by : (j : ℕ) → 1 ≤ j → inheritedBy (s .counts .jobs) named j ≡ inheritedRank s j
   unfolding inheritedBy inheritedRank
   inherited-by j p =
-      least-same (s .jobs) j (λ r. heir (at named r) j r) (inheritedFrom s j)
+      least-same (s .counts .jobs) j (λ r. heir (at named r) j r) (inheritedFrom s j)
       (λ r a b. ap (λ (n : ℕ). heir n j r) (by r a b) ∙ sym (names-waiting s j r p))
 
-  pub running-by : (p : ℕ) → runningBy (s .jobs) named (s .«processor_of») (s .active) (s .request) p ≡ runningRank s p
+  pub running-by : (p : ℕ) → runningBy (s .counts .jobs) named (s .«processor_of») (s .active) (s .request) p ≡ runningRank s p
   unfolding runningBy runningRank
   running-by p =
       ap (λ (n : ℕ). n % 256)
-      (least-same (s .jobs) noKey _ (readyKey s p)
+      (least-same (s .counts .jobs) noKey _ (readyKey s p)
       (λ r a b. ap (λ (n : ℕ). if isReady s p r then n * 256 + r else noKey) (inherited-by r a)))

@@ -4,6 +4,7 @@
 use mathlib.Core.Path.{_≡_, refl}
 use mathlib.Core.List.{List}
 use Prim.Native.Nat.{ℕ}
+use Rattle.state.specs.declared.Counts.{Counts}
 use Rattle.state.specs.declared.State.{State}
 use Rattle.state.specs.State.{stateOf}
 use Rattle.weights.specs.Weights.{weight}
@@ -12,15 +13,15 @@ use Rattle.rule.specs.Granting.{namedKey}
 use Rattle.rule.specs.Parts.{waitsOf}
 use Rattle.inheritance.specs.Running.{inheritedRank, runningRank}
 
--- a state with these declarations, locks and requests, with the jobs' processors and these active jobs
-abbrev pub runState : ℕ → ℕ → List ℕ → ℕ → List ℕ → List ℕ → List ℕ → List ℕ → List ℕ → State
-runState jobs objects processorOf active mayRead mayWrite readers writers request =
-    stateOf 0 jobs objects processorOf mayRead mayWrite active 0 readers writers request
+-- a state with these counts, declarations, locks and requests, with the jobs' processors and these active jobs
+abbrev pub runState : Counts → List ℕ → ℕ → List ℕ → List ℕ → List ℕ → List ℕ → List ℕ → State
+runState counts processorOf active mayRead mayWrite readers writers request =
+    stateOf counts processorOf mayRead mayWrite active 0 readers writers request
 
 -- a state's parts
 abbrev pub runOf : State → State
 runOf s =
-    runState (s .jobs) (s .objects) (s .«processor_of») (s .active) (s .«may_read») (s .«may_write») (s .readers) (s .writers) (s .request)
+    runState (s .counts) (s .«processor_of») (s .active) (s .«may_read») (s .«may_write») (s .readers) (s .writers) (s .request)
 
 pub inherited-rank-parts : (s : State) (j : ℕ) → inheritedRank s j ≡ inheritedRank (waitsOf s) j
 unfolding lowestKeyBy objectKey othersKey weight namedKey inheritedRank

@@ -16,7 +16,7 @@ inheritedFrom s j r = if isWaiting s r && eqb (namedHolder s r) j then r else j
 
 -- "A job's inherited rank is the most urgent of its own and those of the waiting jobs that name it."
 unfoldable pub inheritedRank : State → ℕ → ℕ
-inheritedRank s j = least (s .jobs) j (inheritedFrom s j)
+inheritedRank s j = least (s .counts .jobs) j (inheritedFrom s j)
 
 -- r is an active job of processor p that isn't waiting
 abbrev pub isReady : State → ℕ → ℕ → Bool
@@ -28,4 +28,4 @@ readyKey s p r = if isReady s p r then inheritedRank s r * 256 + r else noKey
 
 -- "A processor runs its active job that isn't waiting with the most urgent inherited rank, or is idle": that rank, or 0
 unfoldable pub runningRank : State → ℕ → ℕ
-runningRank s p = least (s .jobs) noKey (readyKey s p) % 256
+runningRank s p = least (s .counts .jobs) noKey (readyKey s p) % 256

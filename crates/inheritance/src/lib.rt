@@ -1,17 +1,17 @@
 // Inherited ranks, and the job that a processor runs. Whom each rank names is worked out once and answers for all jobs.
 ghost use mathlib.Core.Path.{_≡_};
 ghost use Prim.Native.Nat.{_≤_, min};
-ghost use Rattle.ranks.specs.Ranks.{limit};
-ghost use Rattle.state.specs.State.{mostObjects};
+ghost use Rattle.state.specs.State.{mostJobs, mostObjects};
 ghost use Rattle.inheritance.specs.Running as R;
 ghost use Rattle.inheritance.specs.Inheriting as I;
 ghost use Rattle.rule.specs.Parts.{waitsState};
 ghost use Rattle.inheritance.specs.Parts.{runState};
 use ranks::RankSet;
 use rule::named_key;
+use state::Counts;
 use state::JobProcessors;
 use state::JobRequests;
-use state::ObjectSets;
+use state::Sets;
 use weights::NO_KEY;
 use weights::key_holder;
 use weights::lower;
@@ -21,24 +21,24 @@ type JobRanks = [u8; 64];
 
 // For each rank, the rank that it names; 0 where it does not wait or names nobody.
 fn named_holders<'a>(
-    jobs: u8,
-    objects: u8,
-    may_read: &'a ObjectSets,
-    may_write: &'a ObjectSets,
-    readers: &'a ObjectSets,
-    writers: &'a ObjectSets,
+    counts: Counts,
+    may_read: Sets<'a>,
+    may_write: Sets<'a>,
+    readers: Sets<'a>,
+    writers: Sets<'a>,
     request: &'a JobRequests,
 ) -> JobRanks
-    requires { ⌜ (jobs ≤ limit) × (objects ≤ mostObjects) ⌝ }
-    ensures { λ r. ⌜ I.NamedBy r (waitsState jobs objects (now («may_read» .entry)) (now («may_write» .entry)) (now (readers .entry)) (now (writers .entry)) (now (request .entry))) ⌝ }
+    requires { ⌜ (counts .jobs ≤ mostJobs) × (counts .objects ≤ mostObjects) ⌝ }
+    ensures { λ r. ⌜ I.NamedBy r (waitsState counts (now («may_read» .entry)) (now («may_write» .entry)) (now (readers .entry)) (now (writers .entry)) (now (request .entry))) ⌝ }
 {
+    let jobs = counts.jobs;
     let mut named: JobRanks = [0; 64];
     let mut rank: u8 = 0;
     while rank < jobs {
         let i = rank as usize;
         rank += 1;
         named[i] = key_holder(named_key(
-            objects,
+            counts,
             may_read,
             may_write,
             readers,
@@ -66,7 +66,7 @@ fn lesser(a: u8, b: u8) -> u8
 
 // The most urgent of the rank and of the ranks that name it, by whom each rank names.
 fn inherited_by<'a>(jobs: u8, named: &'a JobRanks, rank: u8) -> u8
-    requires { ⌜ jobs ≤ limit ⌝ }
+    requires { ⌜ jobs ≤ mostJobs ⌝ }
     ensures { λ r. ⌜ r ≡ I.inheritedBy jobs (now (named .entry)) rank ⌝ }
 {
     let mut inherited = rank;
@@ -81,33 +81,24 @@ fn inherited_by<'a>(jobs: u8, named: &'a JobRanks, rank: u8) -> u8
 
 // The most urgent of the rank and of the waiting ranks that name it.
 pub fn inherited_rank<'a>(
-    jobs: u8,
-    objects: u8,
-    may_read: &'a ObjectSets,
-    may_write: &'a ObjectSets,
-    readers: &'a ObjectSets,
-    writers: &'a ObjectSets,
+    counts: Counts,
+    may_read: Sets<'a>,
+    may_write: Sets<'a>,
+    readers: Sets<'a>,
+    writers: Sets<'a>,
     request: &'a JobRequests,
     rank: u8,
 ) -> u8
-    requires { ⌜ (jobs ≤ limit) × (objects ≤ mostObjects) × (1 ≤ rank) ⌝ }
-    ensures { λ r. ⌜ r ≡ R.inheritedRank (waitsState jobs objects (now («may_read» .entry)) (now («may_write» .entry)) (now (readers .entry)) (now (writers .entry)) (now (request .entry))) rank ⌝ }
+    requires { ⌜ (counts .jobs ≤ mostJobs) × (counts .objects ≤ mostObjects) × (1 ≤ rank) ⌝ }
+    ensures { λ r. ⌜ r ≡ R.inheritedRank (waitsState counts (now («may_read» .entry)) (now («may_write» .entry)) (now (readers .entry)) (now (writers .entry)) (now (request .entry))) rank ⌝ }
 {
-    let named = named_holders(
-        jobs,
-        objects,
-        may_read,
-        may_write,
-        readers,
-        writers,
-        request,
-    );
-    inherited_by(jobs, &named, rank)
+    let named = named_holders(counts, may_read, may_write, readers, writers, request);
+    inherited_by(counts.jobs, &named, rank)
 }
 
 // Whether the rank, with its own processor and request, is an active job of the processor and isn't waiting.
 fn is_ready(own: u8, processor: u8, active: RankSet, request: u16, rank: u8) -> bool
-    requires { ⌜ (1 ≤ rank) × (rank ≤ limit) ⌝ }
+    requires { ⌜ (1 ≤ rank) × (rank ≤ mostJobs) ⌝ }
     ensures { λ r. ⌜ r ≡ I.readyBy own processor active request rank ⌝ }
 {
     (own == processor) & ranks::contains(active, rank) & (request == 0)
@@ -115,7 +106,7 @@ fn is_ready(own: u8, processor: u8, active: RankSet, request: u16, rank: u8) -> 
 
 // The key that orders ready jobs by inherited rank; no lock's key for a job that isn't ready.
 fn ready_key<'a>(jobs: u8, named: &'a JobRanks, ready: bool, rank: u8) -> u64
-    requires { ⌜ jobs ≤ limit ⌝ }
+    requires { ⌜ jobs ≤ mostJobs ⌝ }
     ensures { λ r. ⌜ r ≡ I.readyKeyBy jobs (now (named .entry)) ready rank ⌝ }
 {
     if ready {
@@ -134,7 +125,7 @@ fn running_by<'a>(
     request: &'a JobRequests,
     processor: u8,
 ) -> u8
-    requires { ⌜ jobs ≤ limit ⌝ }
+    requires { ⌜ jobs ≤ mostJobs ⌝ }
     ensures { λ r. ⌜ r ≡ I.runningBy jobs (now (named .entry)) (now («processor_of» .entry)) active (now (request .entry)) processor ⌝ }
 {
     let mut lowest = NO_KEY;
@@ -150,28 +141,26 @@ fn running_by<'a>(
 
 // The active rank of the processor that isn't waiting and has the most urgent inherited rank; 0 where the processor is idle.
 pub fn running_rank<'a>(
-    jobs: u8,
-    objects: u8,
+    counts: Counts,
     processor_of: &'a JobProcessors,
     active: RankSet,
-    may_read: &'a ObjectSets,
-    may_write: &'a ObjectSets,
-    readers: &'a ObjectSets,
-    writers: &'a ObjectSets,
+    may_read: Sets<'a>,
+    may_write: Sets<'a>,
+    readers: Sets<'a>,
+    writers: Sets<'a>,
     request: &'a JobRequests,
     processor: u8,
 ) -> u8
-    requires { ⌜ (jobs ≤ limit) × (objects ≤ mostObjects) ⌝ }
-    ensures { λ r. ⌜ r ≡ R.runningRank (runState jobs objects (now («processor_of» .entry)) active (now («may_read» .entry)) (now («may_write» .entry)) (now (readers .entry)) (now (writers .entry)) (now (request .entry))) processor ⌝ }
+    requires { ⌜ (counts .jobs ≤ mostJobs) × (counts .objects ≤ mostObjects) ⌝ }
+    ensures { λ r. ⌜ r ≡ R.runningRank (runState counts (now («processor_of» .entry)) active (now («may_read» .entry)) (now («may_write» .entry)) (now (readers .entry)) (now (writers .entry)) (now (request .entry))) processor ⌝ }
 {
-    let named = named_holders(
-        jobs,
-        objects,
-        may_read,
-        may_write,
-        readers,
-        writers,
+    let named = named_holders(counts, may_read, may_write, readers, writers, request);
+    running_by(
+        counts.jobs,
+        &named,
+        processor_of,
+        active,
         request,
-    );
-    running_by(jobs, &named, processor_of, active, request, processor)
+        processor,
+    )
 }

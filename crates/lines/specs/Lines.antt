@@ -6,6 +6,7 @@ use mathlib.Core.List.{List, [], _∷_, _++_, map}
 use lib.ListN.{length, drop}
 use Rattle.basics.specs.Choice.{if_then_else_, between}
 use Rattle.basics.specs.Arrays.{at}
+use Rattle.state.specs.declared.Counts.{Counts}
 use Rattle.decimals.specs.Decimal.{decimal}
 use Rattle.events.specs.declared.Answer.{Answer}
 use Rattle.events.specs.Answers.{Paper, paper}
@@ -42,8 +43,8 @@ answerFields p = (answerLetter (p .number) ∷ []) ∷ map decimal (p .values)
 -- ---- the lines
 
 -- "Line 1 gives mark, version, jobs, processors, objects.": `JOB`, 1 and the three counts
-unfoldable pub headerLine : (jobs processors objects : ℕ) → List ℕ
-headerLine jobs processors objects = line (74 ∷ 79 ∷ 66 ∷ []) (decimal 1 ∷ decimal jobs ∷ decimal processors ∷ decimal objects ∷ [])
+unfoldable pub headerLine : Counts → List ℕ
+headerLine c = line (74 ∷ 79 ∷ 66 ∷ []) (decimal 1 ∷ decimal (c .jobs) ∷ decimal (c .processors) ∷ decimal (c .objects) ∷ [])
 
 -- "Each event's line has its number, kind letter .., rank, object, then" the answer
 unfoldable pub eventLine : (number kind rank object : ℕ) → Answer → List ℕ

@@ -12,6 +12,7 @@ use decimals::lay_digits;
 use decimals::lay_number;
 use decimals::lay_three;
 use events::Answer;
+use state::Counts;
 
 // A space and a letter.
 pub fn lay_letter(buf: &mut [u8], at: usize, letter: u8) -> usize
@@ -107,15 +108,15 @@ pub fn lay_event(
 }
 
 // The first line.
-pub fn lay_header(buf: &mut [u8], jobs: u8, processors: u8, objects: u8) -> usize
+pub fn lay_header(buf: &mut [u8], counts: Counts) -> usize
     requires { ⌜ 20 ≤ length (now buf) ⌝ }
-    ensures { λ r. ⌜ Laid (now (buf .entry)) (now (buf .exit)) 0 r 20 (headerLine jobs processors objects) ⌝ }
+    ensures { λ r. ⌜ Laid (now (buf .entry)) (now (buf .exit)) 0 r 20 (headerLine counts) ⌝ }
 {
     let mark = lay_three(buf, 0, b'J', b'O', b'B');
     let version = lay_field(buf, mark, 1);
-    let end = lay_field(buf, version, jobs);
-    let next = lay_field(buf, end, processors);
-    lay_last(buf, next, objects)
+    let end = lay_field(buf, version, counts.jobs);
+    let next = lay_field(buf, end, counts.processors);
+    lay_last(buf, next, counts.objects)
 }
 
 // The last line of a whole record.

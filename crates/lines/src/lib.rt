@@ -9,15 +9,16 @@ pub use lay::lay_event;
 pub use lay::lay_header;
 pub use lay::lay_refused;
 pub use lay::lay_short;
+use state::Counts;
 
 // Room for any line: the longest has 45 bytes.
 pub type LineBuffer = [u8; 64];
 
 // Line 1 of a record: mark, version, jobs, processors, objects.
-pub fn header_line(buf: &mut LineBuffer, jobs: u8, processors: u8, objects: u8) -> usize
-    ensures { λ r. ⌜ LineLaid (headerLine jobs processors objects) (now (buf .entry)) (now (buf .exit)) r ⌝ }
+pub fn header_line(buf: &mut LineBuffer, counts: Counts) -> usize
+    ensures { λ r. ⌜ LineLaid (headerLine counts) (now (buf .entry)) (now (buf .exit)) r ⌝ }
 {
-    lay_header(buf, jobs, processors, objects)
+    lay_header(buf, counts)
 }
 
 // The line of the event with this number, which got this answer.

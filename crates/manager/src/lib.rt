@@ -8,36 +8,34 @@ use events::Answer;
 use events::Outcome;
 use events::perform;
 use ranks::RankSet;
+use state::Counts;
 use state::JobProcessors;
 use state::JobRequests;
-use state::ObjectSets;
+use state::Sets;
+use state::SetsMut;
 use state::State;
 use state::fits;
 
 // An event: refused by 8 and nothing changed where the state is not well formed; else what is refused or done by its kind's rule.
 pub fn act<'a>(
-    processors: u8,
-    jobs: u8,
-    objects: u8,
+    counts: Counts,
     processor_of: &'a JobProcessors,
-    may_read: &'a ObjectSets,
-    may_write: &'a ObjectSets,
+    may_read: Sets<'a>,
+    may_write: Sets<'a>,
     active: &mut RankSet,
     unlocked: &mut RankSet,
-    readers: &mut ObjectSets,
-    writers: &mut ObjectSets,
+    readers: SetsMut,
+    writers: SetsMut,
     request: &mut JobRequests,
     kind: u8,
     rank: u8,
     object: u8,
 ) -> Answer
-    ensures { λ r. ⌜ outcome r (stateOf processors jobs objects (now («processor_of» .entry)) (now («may_read» .entry)) (now («may_write» .entry)) (now (active .exit)) (now (unlocked .exit)) (now (readers .exit)) (now (writers .exit)) (now (request .exit)))
-        ≡ step (stateOf processors jobs objects (now («processor_of» .entry)) (now («may_read» .entry)) (now («may_write» .entry)) (now (active .entry)) (now (unlocked .entry)) (now (readers .entry)) (now (writers .entry)) (now (request .entry))) kind rank object ⌝ }
+    ensures { λ r. ⌜ outcome r (stateOf counts (now («processor_of» .entry)) (now («may_read» .entry)) (now («may_write» .entry)) (now (active .exit)) (now (unlocked .exit)) (now (readers .exit)) (now (writers .exit)) (now (request .exit)))
+        ≡ step (stateOf counts (now («processor_of» .entry)) (now («may_read» .entry)) (now («may_write» .entry)) (now (active .entry)) (now (unlocked .entry)) (now (readers .entry)) (now (writers .entry)) (now (request .entry))) kind rank object ⌝ }
 {
     if !fits(
-        processors,
-        jobs,
-        objects,
+        counts,
         processor_of,
         may_read,
         may_write,
@@ -50,8 +48,7 @@ pub fn act<'a>(
         return Answer::Refused(8);
     }
     perform(
-        jobs,
-        objects,
+        counts,
         may_read,
         may_write,
         active,
@@ -75,9 +72,7 @@ pub fn event(state: State, kind: u8, rank: u8, object: u8) -> Outcome
     let mut writers = state.writers;
     let mut request = state.request;
     let answer = act(
-        state.processors,
-        state.jobs,
-        state.objects,
+        state.counts,
         &state.processor_of,
         &state.may_read,
         &state.may_write,

@@ -15,7 +15,7 @@ use Rattle.refusals.specs.Refusals.{isRequest, modeOf, objectAllowed, eventRefu
 
 pub record AcceptedEvent (s : State) (k r o : ℕ) : Type 0 where
   pub kind : between 1 6 k ≡ true
-  pub rank : (1 ≤ r) × (r ≤ s .jobs)
+  pub rank : (1 ≤ r) × (r ≤ s .counts .jobs)
   pub object : objectAllowed s k o ≡ true
   pub not-12 : eqb k 1 && isActive s r ≡ false
   pub not-13 : not (eqb k 1) && not (isActive s r) ≡ false
@@ -39,7 +39,7 @@ not-refused s k r o e =
     let e17 = if-zero 16 (isRequest k && holdsAlready s (modeOf k) r o) _ (e16 .1) in
     record {
       kind = not-false (between 1 6 k) (e9 .0);
-      rank = between-true 1 (s .jobs) r (not-false (isRank s r) (e10 .0));
+      rank = between-true 1 (s .counts .jobs) r (not-false (isRank s r) (e10 .0));
       object = not-false (objectAllowed s k o) (e11 .0);
       not-12 = e12 .0;
       not-13 = e13 .0;
@@ -58,7 +58,7 @@ request-facts : (s : State) (m r o : ℕ) → (read ≤ m) × (m ≤ write) → 
     → mayLock s m r o ≡ true → holdsAlready s m r o ≡ false → RequestFacts s m r o
 request-facts s m r o mode object active not-unlocked right new = record {
   mode = mode;
-  object = between-true 1 (s .objects) o object;
+  object = between-true 1 (s .counts .objects) o object;
   active = active;
   not-unlocked = not-unlocked;
   right = right;

@@ -13,9 +13,11 @@ use Rattle.state.specs.State.{read, write, declared, holders, holds, isActive, 
 use Rattle.state.specs.Facts.{In, RequestFacts, Facts}
 use Rattle.state.specs.Changes.{overTable, Same, grant-others, grant-same}
 use Rattle.state.specs.Keeping.{NoConflict, unheld, writable, read-granted, write-granted}
+use Rattle.state.specs.Modes.{Mode}
 use Rattle.weights.specs.Weights.{weight}
+use Rattle.weights.specs.Keys.{noWeight}
 use Rattle.theory.specs.Machine.{Passes, Took}
-use Rattle.promises.specs.Weights.{Mode, weightIf, read-own, read-writer, write-writer, write-any, write-below-read, weight-small}
+use Rattle.promises.specs.Weights.{weightIf, read-own, read-writer, write-writer, write-any, write-below-read, weight-small}
 use Rattle.promises.specs.Weights.{lockWeight, lock-below}
 use Rattle.promises.specs.View.{asNumber}
 
@@ -41,12 +43,12 @@ module _ (s t : State) where
   unlocked-frame x S = ap asNumber (S .unlocked)
 
 -- no lock, no weight
-pub no-weight : (s : State) (r o : ℕ) → ((m : ℕ) → holds s m r o ≡ false) → lockWeight s r o ≡ 256
+pub no-weight : (s : State) (r o : ℕ) → ((m : ℕ) → holds s m r o ≡ false) → lockWeight s r o ≡ noWeight
 no-weight s r o h = ap₂ (λ a b. min (weightIf a (weight s read r o)) (weightIf b (weight s write r o))) (h read) (h write)
 
 -- ---- a grant
 
-module _ (s : State) (F : Facts s) (r : ℕ) (low : 1 ≤ r) (high : r ≤ s .jobs) (m o : ℕ) (A : RequestFacts s m r o)
+module _ (s : State) (F : Facts s) (r : ℕ) (low : 1 ≤ r) (high : r ≤ s .counts .jobs) (m o : ℕ) (A : RequestFacts s m r o)
     (pass : Passes (lockWeight s) r) where
   -- a request that passes conflicts with no lock of another job: each such lock weighs at least as urgent as r
   pub no-conflict : NoConflict s m r o
@@ -69,7 +71,7 @@ module _ (s : State) (F : Facts s) (r : ℕ) (low : 1 ≤ r) (high : r ≤ s .jo
       reading : m ≡ read → (lockWeight t r o ≤ r) × (lockWeight t r o ≤ lockWeight s r o)
       reading e =
           let none = unheld s F r low high m o A in
-          let before : lockWeight s r o ≡ 256 =
+          let before : lockWeight s r o ≡ noWeight =
           ap₂ (λ a b. min (weightIf a (weight s read r o)) (weightIf b (weight s write r o)))
           (subst (λ n. holds s n r o ≡ false) e (none .0)) (none .1) in
           let new = lock-below t read r o (inl refl) (read-granted s F r low high m o A e .0) in

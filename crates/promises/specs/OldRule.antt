@@ -11,14 +11,13 @@ use lib.Dec.{eqb}
 use borrow.Author.Tests.{eqb-false, eq-eqb, ne-eqb, lt-ltb}
 use Rattle.basics.specs.Choice.{if_then_else_, _if_else_}
 use Rattle.basics.specs.Loops.{least, least-top, least-le, least-at}
-use Rattle.ranks.specs.Ranks.{limit}
 use Rattle.state.specs.declared.State.{State}
-use Rattle.state.specs.State.{processorOf, isActive, requestOf}
+use Rattle.state.specs.State.{mostJobs, mostObjects, processorOf, isActive, requestOf}
 use Rattle.state.specs.Facts.{Facts}
 use Rattle.state.specs.Modes.{either-mode}
 use Rattle.state.specs.WellFormedFacts.{facts-well-formed, held-rank}
 use Rattle.weights.specs.Weights.{writeCeiling, absoluteCeiling, moreUrgent, weight, oldWeight}
-use Rattle.weights.specs.Keys.{noKey, keyWeight, keyHolder, lowestKey, oldLowestKey}
+use Rattle.weights.specs.Keys.{noWeight, noKey, keyWeight, keyHolder, lowestKey, oldLowestKey}
 use Rattle.weights.specs.KeyLaws.{OthersLock, KeyOfOther, key-below, key-top, key-at, le-key}
 use Rattle.rule.specs.Granting.{passes, oldPasses, namedKey}
 use Rattle.inheritance.specs.Running as R
@@ -61,7 +60,7 @@ module _ (s : State) where
       (λ m r o l. omega (arith, key-below (weight s) s j m r o l, old-above m r o))
 
   -- what is stopped by less urgent jobs alone is stopped by the same lock
-  old-key-same : (j : ℕ) → j ≤ limit → s .objects ≤ 128 → ((m r o : ℕ) → OthersLock s j m r o → weight s m r o ≤ j → j < r)
+  old-key-same : (j : ℕ) → j ≤ mostJobs → s .counts .objects ≤ mostObjects → ((m r o : ℕ) → OthersLock s j m r o → weight s m r o ≤ j → j < r)
       → keyWeight (lowestKey s j) ≤ j → oldLowestKey s j ≡ lowestKey s j
   old-key-same j small objects less stopped = go (key-at (weight s) s j)
     where
@@ -77,33 +76,33 @@ module _ (s : State) where
 
 -- ---- the job that the only processor runs
 
-module _ (s : State) (K : Kept s) (one : s .processors ≡ 1) where
+module _ (s : State) (K : Kept s) (one : s .counts .processors ≡ 1) where
   abbrev F : Facts s
   F = K .facts
 
   -- a waiting job names the most urgent holder
-  waiting-names-top : (x : ℕ) → requestOf s x ≢ 0 → TopHolder 256 (view s) (named s x)
+  waiting-names-top : (x : ℕ) → requestOf s x ≢ 0 → TopHolder noWeight (view s) (named s x)
   waiting-names-top x d = named-top (K .invariant) (seen s F) x (waits-requested s F x d)
 
   inherits-low : (y : ℕ) → R.inheritedRank s y ≤ y
   unfolding R.inheritedRank
-  inherits-low y = least-top (s .jobs) y (inheritedFrom s y)
+  inherits-low y = least-top (s .counts .jobs) y (inheritedFrom s y)
 
   -- a job less urgent than some holder inherits nothing
-  inherits-own : (j h p : ℕ) → 1 ≤ j → lockWeight s h p < 256 → h < j → j ≤ R.inheritedRank s j
+  inherits-own : (j h p : ℕ) → 1 ≤ j → lockWeight s h p < noWeight → h < j → j ≤ R.inheritedRank s j
   unfolding R.inheritedRank namedKey
-  inherits-own j h p low held less = elim (least-at (s .jobs) j (inheritedFrom s j)) [
+  inherits-own j h p low held less = elim (least-at (s .counts .jobs) j (inheritedFrom s j)) [
     | inl e ↦ omega arith
     | inr t ↦ go (t .0) (eqb (requestOf s (t .0)) 0) refl (passes s (t .0)) refl (t .3)
   ]
     where
       inherited : ℕ
-      inherited = least (s .jobs) j (inheritedFrom s j)
+      inherited = least (s .counts .jobs) j (inheritedFrom s j)
 
       -- who waits names another than j
       another : (x : ℕ) → requestOf s x ≢ 0 → passes s x ≡ false → keyHolder (lowestKey s x) ≢ j
       another x d f e =
-          let top = subst (TopHolder 256 (view s)) (names-lowest s F x d f ∙ e) (waiting-names-top x d) in
+          let top = subst (TopHolder noWeight (view s)) (names-lowest s F x d f ∙ e) (waiting-names-top x d) in
           omega (arith, top .1 h p held)
 
       go : (x : ℕ) → (q : Bool) → eqb (requestOf s x) 0 ≡ q → (f : Bool) → passes s x ≡ f
@@ -114,27 +113,27 @@ module _ (s : State) (K : Kept s) (one : s .processors ≡ 1) where
 
   -- the least key of the ready jobs
   runKey : ℕ
-  runKey = least (s .jobs) noKey (readyKey s 0)
+  runKey = least (s .counts .jobs) noKey (readyKey s 0)
 
-  ready-key : (y : ℕ) → 1 ≤ y → y ≤ s .jobs → isActive s y ≡ true → requestOf s y ≡ 0 → readyKey s 0 y ≡ R.inheritedRank s y * 256 + y
+  ready-key : (y : ℕ) → 1 ≤ y → y ≤ s .counts .jobs → isActive s y ≡ true → requestOf s y ≡ 0 → readyKey s 0 y ≡ R.inheritedRank s y * 256 + y
   ready-key y a b active free =
       let p : processorOf s y ≡ 0 = omega (arith, F .processors y a b) in
       simp (eq-eqb (processorOf s y) 0 p, active, eq-eqb (requestOf s y) 0 free)
 
-  ready-below : (y : ℕ) → 1 ≤ y → y ≤ s .jobs → isActive s y ≡ true → requestOf s y ≡ 0 → runKey ≤ y * 256 + y
+  ready-below : (y : ℕ) → 1 ≤ y → y ≤ s .counts .jobs → isActive s y ≡ true → requestOf s y ≡ 0 → runKey ≤ y * 256 + y
   unfolding runKey
   ready-below y a b active free =
-      omega (arith, least-le (s .jobs) noKey (readyKey s 0) y a b, ready-key y a b active free, inherits-low y)
+      omega (arith, least-le (s .counts .jobs) noKey (readyKey s 0) y a b, ready-key y a b active free, inherits-low y)
 
   -- whoever runs is the one of the least key
   run-key : (j : ℕ) → 1 ≤ j → runningRank s 0 ≡ j → (runKey ≡ noKey) ⊎ (runKey ≡ R.inheritedRank s j * 256 + j)
   unfolding runKey runningRank
-  run-key j low e = elim (least-at (s .jobs) noKey (readyKey s 0)) [
+  run-key j low e = elim (least-at (s .counts .jobs) noKey (readyKey s 0)) [
     | inl z ↦ inl z
     | inr t ↦ go (t .0) (t .2) (isReady s 0 (t .0)) (t .3)
   ]
     where
-      go : (x : ℕ) → x ≤ s .jobs → (b : Bool) → runKey ≡ (if b then R.inheritedRank s x * 256 + x else noKey)
+      go : (x : ℕ) → x ≤ s .counts .jobs → (b : Bool) → runKey ≡ (if b then R.inheritedRank s x * 256 + x else noKey)
           → (runKey ≡ noKey) ⊎ (runKey ≡ R.inheritedRank s j * 256 + j)
       go x l true z =
           let same : x ≡ j = omega (arith, F .counts .jobs) in
@@ -142,14 +141,14 @@ module _ (s : State) (K : Kept s) (one : s .processors ≡ 1) where
       go x l false z = inl z
 
   -- the job that runs is more urgent than each other holder
-  runs-above : (j h p : ℕ) → 1 ≤ j → j ≤ s .jobs → runningRank s 0 ≡ j → h ≢ j → lockWeight s h p < 256 → j < h
+  runs-above : (j h p : ℕ) → 1 ≤ j → j ≤ s .counts .jobs → runningRank s 0 ≡ j → h ≢ j → lockWeight s h p < noWeight → j < h
   runs-above j h p low high run d held = elim (decLt j h) [
     | yes z ↦ z
     | no z ↦ absurd (elim (ℕ-discrete (requestOf s h) 0) [ yes free ↦ ready h p held (omega arith) free | no w ↦ waiting (omega arith) w ])
   ]
     where
       -- a holder more urgent than j that doesn't wait runs before it
-      ready : (y q : ℕ) → lockWeight s y q < 256 → y < j → requestOf s y ≡ 0 → ⊥
+      ready : (y q : ℕ) → lockWeight s y q < noWeight → y < j → requestOf s y ≡ 0 → ⊥
       ready y q held less free =
           let H = lock-held s y q held in
           let rank = held-rank s F (H .mode) y q (H .held) in
@@ -168,7 +167,7 @@ module _ (s : State) (K : Kept s) (one : s .processors ≡ 1) where
   -- ---- one request
 
   -- it passes by both rules, or meets the same lock
-  pub same-key : (j : ℕ) → 1 ≤ j → j ≤ s .jobs → runningRank s 0 ≡ j
+  pub same-key : (j : ℕ) → 1 ≤ j → j ≤ s .counts .jobs → runningRank s 0 ≡ j
       → ((passes s j ≡ true) × (oldPasses s j ≡ true)) ⊎ (oldLowestKey s j ≡ lowestKey s j)
   same-key j low high run = elim (decLt j (keyWeight (lowestKey s j))) [
     | yes l ↦ inl (lt-ltb j (keyWeight (lowestKey s j)) l, lt-ltb j (keyWeight (oldLowestKey s j)) (omega (arith, old-key-above s j)))
@@ -178,7 +177,7 @@ module _ (s : State) (K : Kept s) (one : s .processors ≡ 1) where
 
   pub running-is : value (rankReply (askRunning s 0)) 0 0 ≡ runningRank s 0
   unfolding askRunning processorRefusal
-  running-is = simp (facts-well-formed s F, lt-ltb 0 (s .processors) (omega arith))
+  running-is = simp (facts-well-formed s F, lt-ltb 0 (s .counts .processors) (omega arith))
 
 -- ---- the event
 
@@ -188,7 +187,7 @@ unfolding requestMeeting
 request-same s m j o (inl p) = simp (p .0, p .1)
 request-same s m j o (inr e) = ap (requestMeeting s m j o) (sym e)
 
-pub one-request : (s : State) → Kept s → s .processors ≡ 1 → (k j o : ℕ) → isRequest k ≡ true → value (rankReply (askRunning s 0)) 0 0 ≡ j
+pub one-request : (s : State) → Kept s → s .counts .processors ≡ 1 → (k j o : ℕ) → isRequest k ≡ true → value (rankReply (askRunning s 0)) 0 0 ≡ j
     → paper (step s k j o .answer) .number ≢ 4 → step s k j o ≡ oldRequest s (modeOf k) j o
 one-request s K one k j o kind run ok = go (refusal s k j o) refl
   where

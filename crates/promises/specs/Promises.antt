@@ -107,7 +107,7 @@ nobody-to-wake {t} r = nobody-left t (no-waiting-request-passes r)
 -- ---- ONE PROCESSOR
 -- "Equality with it is claimed for one state, reached from a fresh one by any events, and one request of the job that
 -- the only processor runs: the same grant or wait, the same named lock." A request is of kind 2 or 3, and not refused, the fourth answer.
-pub one-processor : {t : State} → Reached t → t .processors ≡ 1
+pub one-processor : {t : State} → Reached t → t .counts .processors ≡ 1
     → (e : Event) → isRequest (e .kind) ≡ true → value (rankReply (askRunning t 0)) 0 0 ≡ e .rank → paper (outcomeOf t e .answer) .number ≢ 4
     → paper (outcomeOf t e .answer) ≡ paper (oldRequest t (modeOf (e .kind)) (e .rank) (e .object) .answer)
 one-processor {t} r one e kind run ok =

@@ -1,14 +1,15 @@
 -- What holds in every state that is reached from a fresh one: the facts of a well-formed state, and the invariant of the theory.
 -- Assumes nothing.
 use mathlib.Core.Path.{_≡_, ap}
-use Prim.Native.Nat.{ℕ}
+use Prim.Native.Nat.{ℕ, _+_}
 use native.Mathlib.Decide.{ℕ-discrete}
 use Rattle.basics.specs.Choice.{clash}
 use Rattle.state.specs.declared.State.{State}
-use Rattle.state.specs.State.{requestOf, objectOfRequest}
+use Rattle.state.specs.State.{mostObjects, requestOf, objectOfRequest}
 use Rattle.state.specs.Facts.{Sized, Facts}
 use Rattle.state.specs.WellFormedFacts.{facts}
 use Rattle.table.specs.Fresh.{Fresh}
+use Rattle.weights.specs.Keys.{noWeight}
 use Rattle.theory.specs.Machine.{FreshView, Invariant, fresh-invariant}
 use Rattle.theory.specs.Keeps.{step-invariant}
 use Rattle.theory.specs.Lists.{Manages}
@@ -31,7 +32,7 @@ module _ {s : State} (z : Sized s) (f : Fresh s) where
   ]
 
   -- as the theory sees it
-  pub fresh-view : FreshView 256 (view s)
+  pub fresh-view : FreshView noWeight (view s)
   fresh-view = record {
     no-lock = λ r o. no-weight s r o (λ m. f .objects-unlocked m r o);
     no-request = λ j. ap objectOfRequest (none-waiting j);
@@ -42,7 +43,7 @@ module _ {s : State} (z : Sized s) (f : Fresh s) where
 
 pub record Kept (t : State) : Type 0 where
   pub facts : Facts t
-  pub invariant : Invariant 256 (view t)
+  pub invariant : Invariant noWeight (view t)
 
 pub kept : {t : State} → Reached t → Kept t
 kept (fresh z f) = record { facts = fresh-facts z f; invariant = fresh-invariant (fresh-view z f) }
@@ -52,7 +53,7 @@ kept (after {s} r e) =
     record { facts = g .0; invariant = step-invariant (g .1) (k .invariant) }
 
 -- what the theory asks of the manager
-pub manages : Manages next label view 256 129 Facts
+pub manages : Manages next label view noWeight (mostObjects + 1) Facts
 manages = record {
   keeps = λ s e F. step-goes s F (e .kind) (e .rank) (e .object) .0;
   steps = λ s e F. step-goes s F (e .kind) (e .rank) (e .object) .1;

@@ -8,7 +8,7 @@ use native.Mathlib.Omega.{arith}
 use lib.ListN.{getD}
 use borrow.Author.Tests.{ne-eqb}
 use Rattle.basics.specs.Choice.{between-true}
-use Rattle.ranks.specs.Ranks.{limit}
+use Rattle.state.specs.State.{mostJobs}
 use Rattle.state.specs.declared.State.{State}
 use Rattle.state.specs.WellFormed.{wellFormed}
 use Rattle.state.specs.Facts.{Sized}
@@ -52,7 +52,7 @@ module _ (s : State) (z : Sized s) (w : wellFormed s ≡ true) (k r o : ℕ) (ki
       go zero e = refl
       go (suc n) e = absurd (ok (refused-number s k r o n e))
 
-  fits : r ≤ limit
+  fits : r ≤ mostJobs
   fits = omega (arith, not-refused s k r o none-refuses .rank, facts s z w .counts .jobs)
 
   answer-is : answerOf s (modeOf k) r o ≡ paper (step s k r o .answer)

@@ -9,16 +9,16 @@ use native.Mathlib.Decide.{ℕ-discrete}
 use lib.Dec.{eqb}
 use borrow.Author.Tests.{ne-eqb, not-false, le-leb, lt-leb}
 use Rattle.basics.specs.Choice.{if_then_else_, clash, between, between-true}
-use Rattle.ranks.specs.Ranks.{limit, member}
+use Rattle.ranks.specs.Ranks.{member}
 use Rattle.ranks.specs.RankLaws.{member-with-same, member-without-same}
 use Rattle.state.specs.declared.State.{State}
-use Rattle.state.specs.State.{mostObjects, read, write, isActive, hasUnlocked, requestOf, objectOfRequest, requestedObject}
+use Rattle.state.specs.State.{mostJobs, mostObjects, read, write, isActive, hasUnlocked, requestOf, objectOfRequest, requestedObject}
 use Rattle.state.specs.State.{activate, await, grant, release, endRun}
 use Rattle.state.specs.Facts.{RequestFacts, Facts}
 use Rattle.state.specs.Changes.{activate-same, await-same, object-fits, await-request, grant-request, grant-same, end-request, end-same, end-none}
 use Rattle.state.specs.Changes.{release-others, release-none, release-same}
 use Rattle.state.specs.Keeping.{activate-keeps, await-keeps, release-keeps, end-keeps, grant-keeps}
-use Rattle.weights.specs.Keys.{keyHolder, keyObject, lowestKey}
+use Rattle.weights.specs.Keys.{noWeight, keyHolder, keyObject, lowestKey}
 use Rattle.rule.specs.Granting.{passes, reason, wakeable}
 use Rattle.events.specs.declared.Outcome.{Outcome}
 use Rattle.events.specs.declared.Answer.the-variants.{Granted, Waits, Refused}
@@ -38,15 +38,15 @@ use Rattle.promises.specs.AcceptedEvent.{AcceptedEvent, not-refused, not
 
 -- what is shown of an event with this label that goes from s to t
 abbrev pub Goes : State → Label → State → Type 0
-Goes s l t = Facts t × Step 256 (view s) l (view t)
+Goes s l t = Facts t × Step noWeight (view s) l (view t)
 
 -- ---- the rules
 
-module _ (s : State) (F : Facts s) (r : ℕ) (low : 1 ≤ r) (high : r ≤ s .jobs) where
-  small : r < 256
+module _ (s : State) (F : Facts s) (r : ℕ) (low : 1 ≤ r) (high : r ≤ s .counts .jobs) where
+  small : r < noWeight
   small = omega (arith, F .counts .jobs)
 
-  fits : r ≤ limit
+  fits : r ≤ mostJobs
   fits = omega (arith, F .counts .jobs)
 
   -- no request is seen of a job that does not wait
@@ -65,7 +65,7 @@ module _ (s : State) (F : Facts s) (r : ℕ) (low : 1 ≤ r) (high : r ≤ s .jo
       active e = let z : asNumber (isActive (activate s r) r) ≡ 1 = ap asNumber (member-with-same (s .active) r low) in omega arith
 
   module _ (m o : ℕ) (A : RequestFacts s m r o) (none : requestOf s r ≡ 0) where
-    may : MayRequest 256 (view s) r
+    may : MayRequest noWeight (view s) r
     may = record {
       positive = low;
       rank = small;
@@ -112,7 +112,7 @@ module _ (s : State) (F : Facts s) (r : ℕ) (low : 1 ≤ r) (high : r ≤ s .jo
         go true e = grant-goes (modeOf k) e
         go false e = wait-goes (modeOf k) e
 
-  unlock-goes : (o : ℕ) → 1 ≤ o → o ≤ s .objects → isActive s r ≡ true → requestOf s r ≡ 0
+  unlock-goes : (o : ℕ) → 1 ≤ o → o ≤ s .counts .objects → isActive s r ≡ true → requestOf s r ≡ 0
       → Goes s (labelled 4 r o 0 (wakeable (release s r o))) (woken (release s r o) (wakeable (release s r o)))
   unfolding release
   unlock-goes o a b active none =
@@ -169,7 +169,7 @@ accepted-goes s F (suc (suc zero)) r o A =
 accepted-goes s F (suc (suc (suc zero))) r o A =
     request-goes s F r (A .rank .0) (A .rank .1) write o (write-facts s r o A) (not-waiting s r (A .not-14)) 3
 accepted-goes s F (suc (suc (suc (suc zero)))) r o A =
-    let object = between-true 1 (s .objects) o (A .object) in
+    let object = between-true 1 (s .counts .objects) o (A .object) in
     unlock-goes s F r (A .rank .0) (A .rank .1) o (object .0) (object .1) (not-false (isActive s r) (A .not-13))
     (not-waiting s r (A .not-14))
 accepted-goes s F (suc (suc (suc (suc (suc zero))))) r o A =

@@ -6,8 +6,7 @@ use mathlib.Core.List.{List}
 use Prim.Native.Nat.{ℕ, _-_}
 use native.Mathlib.Omega.{arith}
 use lib.ListN.{length, take, drop, length-append, length-take, length-drop, length-replicate}
-use Rattle.ranks.specs.Ranks.{limit}
-use Rattle.state.specs.State.{read, write, mostObjects, zeros}
+use Rattle.state.specs.State.{mostJobs, read, write, mostObjects, zeros}
 use Rattle.state.specs.Facts.{Sized}
 use Rattle.table.specs.declared.TableRead.{TableRead}
 use Rattle.table_bytes.specs.Bytes.{jobsIn, entryCount}
@@ -18,16 +17,16 @@ use Rattle.table.specs.Declarations.{declared-fits}
 use Rattle.table.specs.Fresh.{read-refusal, read-accepted}
 
 module _ (b : List ℕ) (a : AcceptedTable b) where
-  processors-long : length (processorsOf b) ≡ limit
+  processors-long : length (processorsOf b) ≡ mostJobs
   unfolding processorsOf
   processors-long =
       let own = take (jobsIn b) (drop 8 b) in
       omega (
         arith,
-        length-append own (zeros (limit - jobsIn b)),
+        length-append own (zeros (mostJobs - jobsIn b)),
         length-take (jobsIn b) (drop 8 b),
         length-drop 8 b,
-        length-replicate {A = ℕ} (limit - jobsIn b) 0,
+        length-replicate {A = ℕ} (mostJobs - jobsIn b) 0,
         a .start-within,
         a .jobs-high,
       )
@@ -40,7 +39,7 @@ module _ (b : List ℕ) (a : AcceptedTable b) where
     may-write = declared-fits b a write (entryCount b) (omega arith) .long;
     readers = length-replicate {A = ℕ} mostObjects 0;
     writers = length-replicate {A = ℕ} mostObjects 0;
-    request = length-replicate {A = ℕ} limit 0;
+    request = length-replicate {A = ℕ} mostJobs 0;
   }
 
 pub read-sized : (b : List ℕ) → readTable b .refusal ≡ 0 → Sized (readTable b .state)

@@ -3,17 +3,17 @@
 use mathlib.Core.Path.{_≡_, refl, sym, subst}
 use mathlib.Core.Logic.{_≢_}
 use mathlib.Core.Bool.{Bool, true, false, not}
-use Prim.Native.Nat.{ℕ, _<_}
+use Prim.Native.Nat.{ℕ, _+_, _<_}
 use native.Mathlib.Omega.{arith}
 use native.Mathlib.Decide.{ℕ-discrete}
 use lib.Dec.{eqb}
 use borrow.Author.Tests.{eq-eqb, ne-eqb, ltb-false}
 use Rattle.basics.specs.Choice.{if_then_else_, _if_else_, inside-between}
 use Rattle.state.specs.declared.State.{State}
-use Rattle.state.specs.State.{isActive, hasUnlocked, requestOf, requestedObject}
+use Rattle.state.specs.State.{mostObjects, isActive, hasUnlocked, requestOf, requestedObject}
 use Rattle.state.specs.Facts.{Facts}
 use Rattle.state.specs.WellFormedFacts.{facts-well-formed, held-object, waiting-rank}
-use Rattle.weights.specs.Keys.{keyWeight, keyHolder, keyObject, lowestKey}
+use Rattle.weights.specs.Keys.{noWeight, keyWeight, keyHolder, keyObject, lowestKey}
 use Rattle.rule.specs.Granting.{passes, namedKey}
 use Rattle.refusals.specs.Refusals.{jobRefusal}
 use Rattle.questions.specs.Questions.{askNamedLock}
@@ -50,7 +50,7 @@ module _ (s : State) (F : Facts s) where
   pub no-request : (j : ℕ) → requestedObject s j ≡ 0 → requestOf s j ≡ 0
   no-request j e = elim (ℕ-discrete (requestOf s j) 0) [ yes z ↦ z | no d ↦ absurd (waits-requested j d e) ]
 
-  pub waiting-below : (j : ℕ) → requestOf s j ≢ 0 → j < 256
+  pub waiting-below : (j : ℕ) → requestOf s j ≢ 0 → j < noWeight
   waiting-below j d = omega (arith, waiting-rank s F j d, F .counts .jobs)
 
   -- ---- the named lock
@@ -68,9 +68,9 @@ module _ (s : State) (F : Facts s) where
   unfolding askNamedLock jobRefusal namedKey
   names-lowest j d e =
       let rank = waiting-rank s F j d in
-      simp (facts-well-formed s F, inside-between 1 (s .jobs) j (rank .0) (rank .1), F .requests j d .active, ne-eqb (requestOf s j) 0 d, e)
+      simp (facts-well-formed s F, inside-between 1 (s .counts .jobs) j (rank .0) (rank .1), F .requests j d .active, ne-eqb (requestOf s j) 0 d, e)
 
-  pub seen : Seen 256 129 (view s)
+  pub seen : Seen noWeight (mostObjects + 1) (view s)
   seen = record {
     objects = λ r o l. let h = lock-held s r o l in omega (arith, held-object s F (h .mode) r o (h .held), F .counts .objects);
     names-nobody = λ j e. names-nobody j (no-request j e);

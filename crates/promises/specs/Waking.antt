@@ -37,7 +37,7 @@ module _ (s : State) where
 
   module _ (F : Facts s) where
     -- nobody is woken
-    none-woke : ((i : ℕ) → 1 ≤ i → i ≤ s .jobs → wakes s i ≡ 0) → Woke (view s) 0 (view s)
+    none-woke : ((i : ℕ) → 1 ≤ i → i ≤ s .counts .jobs → wakes s i ≡ 0) → Woke (view s) 0 (view s)
     none-woke z = record {
       waited = λ a. absurd (omega arith);
       search = λ x a k.
@@ -53,7 +53,7 @@ module _ (s : State) where
     }
 
     -- w is woken
-    module _ (w : ℕ) (W : FoundAt (s .jobs) (wakes s) w) where
+    module _ (w : ℕ) (W : FoundAt (s .counts .jobs) (wakes s) w) where
       request : RequestFacts s (requestedMode s w) w (requestedObject s w)
       request = F .requests w (wakes-is s w (W .low) (W .itself) .0)
 
@@ -96,7 +96,7 @@ module _ (s : State) where
     unfolding wakeable woken
     wake-keeps = go (wakeable s) (wakeable-found s)
       where
-        go : (w : ℕ) → Found (s .jobs) (wakes s) w → Woken w (if eqb w 0 then s else grant s (requestedMode s w) w (requestedObject s w))
+        go : (w : ℕ) → Found (s .counts .jobs) (wakes s) w → Woken w (if eqb w 0 then s else grant s (requestedMode s w) w (requestedObject s w))
         go w (inl z) = subst (λ v. Woken v (if eqb v 0 then s else grant s (requestedMode s v) v (requestedObject s v))) (sym (z .0)) (F, none-woke (z .1))
         go w (inr W) =
             subst (λ b. Woken w (if b then s else grant s (requestedMode s w) w (requestedObject s w))) (sym (ne-eqb w 0 (λ q. omega (arith, W .low))))
@@ -114,7 +114,7 @@ module _ (s : State) where
   -- nobody is found
   pub nobody-left : ((j : ℕ) → isWaiting s j ≡ true → passes s j ≡ false) → wakeable s ≡ 0
   unfolding wakeable
-  nobody-left fails = all-zero-first (s .jobs) (wakes s) (λ j a b. none j (isWaiting s j) refl)
+  nobody-left fails = all-zero-first (s .counts .jobs) (wakes s) (λ j a b. none j (isWaiting s j) refl)
     where
       none : (j : ℕ) (b : Bool) → isWaiting s j ≡ b → (if b && passes s j then j else 0) ≡ 0
       none j true w = ap {B = ℕ} (λ t. if t then j else 0) (fails j w)

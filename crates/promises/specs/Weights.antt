@@ -1,37 +1,33 @@
--- What the manager's locks weigh, as the theory sees them: one weight for each job and object, 256 where it holds no lock.
+-- What the manager's locks weigh, as the theory sees them: one weight for each job and object, `noWeight` where it holds no lock.
 -- First the laws of the weights, then that weight, then what the lowest key says of it.
 -- Assumes nothing.
 use mathlib.Core.Path.{_≡_, refl, subst, ap}
 use mathlib.Core.Logic.{_≢_, _⊎_, inl, inr}
 use mathlib.Core.Bool.{Bool, true, false}
-use Prim.Native.Nat.{ℕ, _≤_, _<_, min}
+use Prim.Native.Nat.{ℕ, _+_, _≤_, _<_, min}
 use native.Mathlib.Omega.{arith}
 use native.Mathlib.Decide.{decLe}
 use borrow.Author.Tests.{ltb-true, ltb-false}
 use Rattle.basics.specs.Choice.{if_then_else_}
-use Rattle.ranks.specs.Ranks.{limit, union}
+use Rattle.ranks.specs.Ranks.{union}
 use Rattle.ranks.specs.RankLaws.{first-least, first-le}
 use Rattle.ranks.specs.UnionLaws.{union-left, union-right, first-union}
 use Rattle.state.specs.declared.State.{State}
-use Rattle.state.specs.State.{read, write, declared, holds}
+use Rattle.state.specs.State.{mostJobs, read, write, declared, holds}
 use Rattle.state.specs.Facts.{In, Facts}
-use Rattle.state.specs.Modes.{either-mode}
+use Rattle.state.specs.Modes.{Mode, either-mode}
 use Rattle.state.specs.WellFormedFacts.{held-rank, held-object}
 use Rattle.weights.specs.Weights.{writeCeiling, absoluteCeiling, moreUrgent, weight}
-use Rattle.weights.specs.Keys.{lockKey, noKey, keyWeight, lowestKey}
+use Rattle.weights.specs.Keys.{lockKey, noWeight, noKey, keyWeight, lowestKey}
 use Rattle.weights.specs.KeyLaws.{KeyOfOther, key-below, key-at}
 use Rattle.rule.specs.Granting.{passes}
 use Rattle.rule.specs.GrantingTheorems.{others-lock}
 use Rattle.theory.specs.Machine.{Blocked, Passes}
 use Rattle.theory.specs.Key.{Lowest, key-passes, key-blocked}
 
--- a mode of a lock
-abbrev pub Mode : ℕ → Type 0
-Mode m = (m ≡ read) ⊎ (m ≡ write)
-
--- a weight where a lock is held, else 256, which is past every rank
+-- a weight where a lock is held, else that of no lock, which is past every rank
 abbrev pub weightIf : Bool → ℕ → ℕ
-weightIf held w = if held then w else 256
+weightIf held w = if held then w else noWeight
 
 -- ---- the weights of one state
 
@@ -43,7 +39,7 @@ module _ (s : State) where
 
   pub read-writer : (q r o : ℕ) → In (declared s write o) q → weight s read r o ≤ q
   unfolding weight
-  read-writer q r o i = omega (arith, first-least limit (declared s write o) q i)
+  read-writer q r o i = omega (arith, first-least mostJobs (declared s write o) q i)
 
   -- a write lock weighs at least as urgent as each job that may lock its object
   pub write-any : (m q r o : ℕ) → In (declared s m o) q → weight s write r o ≤ q
@@ -53,7 +49,7 @@ module _ (s : State) where
       (λ i. below (union-left (declared s read o) (declared s write o) q i)) (λ i. below (union-right (declared s read o) (declared s write o) q i)) m
     where
       below : In (union (declared s read o) (declared s write o)) q → absoluteCeiling s o ≤ q
-      below i = first-least limit (union (declared s read o) (declared s write o)) q i
+      below i = first-least mostJobs (union (declared s read o) (declared s write o)) q i
 
   pub write-writer : (q r o : ℕ) → In (declared s write o) q → weight s write r o ≤ q
   write-writer q r o i = write-any write q r o i
@@ -62,13 +58,13 @@ module _ (s : State) where
   pub write-below-read : (r o : ℕ) → In (declared s write o) r → weight s write r o ≤ weight s read r o
   unfolding weight
   write-below-read r o i =
-      omega (arith, first-union limit (declared s read o) (declared s write o), write-writer r r o i)
+      omega (arith, first-union mostJobs (declared s read o) (declared s write o), write-writer r r o i)
 
-  pub weight-small : (m r o : ℕ) → weight s m r o ≤ 65
+  pub weight-small : (m r o : ℕ) → weight s m r o ≤ mostJobs + 1
   unfolding weight
   weight-small m r o =
-      either-mode (λ f. f (moreUrgent (writeCeiling s o) r) (absoluteCeiling s o) ≤ 65) (omega (arith, first-le limit (declared s write o)))
-      (first-le limit (union (declared s read o) (declared s write o))) m
+      either-mode (λ f. f (moreUrgent (writeCeiling s o) r) (absoluteCeiling s o) ≤ mostJobs + 1) (omega (arith, first-le mostJobs (declared s write o)))
+      (first-le mostJobs (union (declared s read o) (declared s write o))) m
 
   -- ---- the weight of r's lock on o
 
@@ -87,10 +83,10 @@ module _ (s : State) where
       let q : heldWeight write r o ≡ weight s write r o = ap (λ b. weightIf b (weight s write r o)) (subst (λ n. holds s n r o ≡ true) e h) in
       omega (arith, ap (λ n. weight s n r o) e)
 
-  held-weight : (m r o : ℕ) → heldWeight m r o < 256 → (holds s m r o ≡ true) × (heldWeight m r o ≡ weight s m r o)
+  held-weight : (m r o : ℕ) → heldWeight m r o < noWeight → (holds s m r o ≡ true) × (heldWeight m r o ≡ weight s m r o)
   held-weight m r o l = go (holds s m r o) refl l
     where
-      go : (b : Bool) → holds s m r o ≡ b → weightIf b (weight s m r o) < 256 → (b ≡ true) × (weightIf b (weight s m r o) ≡ weight s m r o)
+      go : (b : Bool) → holds s m r o ≡ b → weightIf b (weight s m r o) < noWeight → (b ≡ true) × (weightIf b (weight s m r o) ≡ weight s m r o)
       go true e h = (refl, refl)
       go false e h = absurd (omega arith)
 
@@ -101,7 +97,7 @@ module _ (s : State) where
     pub held : holds s mode r o ≡ true
     pub weighs : lockWeight r o ≡ weight s mode r o
 
-  pub lock-held : (r o : ℕ) → lockWeight r o < 256 → HeldLock r o
+  pub lock-held : (r o : ℕ) → lockWeight r o < noWeight → HeldLock r o
   lock-held r o l = elim (decLe (heldWeight read r o) (heldWeight write r o)) [
     | yes h ↦ (let z = held-weight read r o (omega arith) in record { mode = read; known = inl refl; held = z .0; weighs = omega arith })
     | no h ↦ (let z = held-weight write r o (omega arith) in record { mode = write; known = inr refl; held = z .0; weighs = omega arith })
@@ -110,22 +106,22 @@ module _ (s : State) where
   -- ---- the lowest key
 
   module _ (F : Facts s) where
-    pub lock-small : (r o : ℕ) → lockWeight r o < 256 → (r < 256) × (o < 256)
+    pub lock-small : (r o : ℕ) → lockWeight r o < noWeight → (r < 256) × (o < 256)
     lock-small r o l =
         let h = lock-held r o l in
         omega (arith, held-rank s F (h .mode) r o (h .held), held-object s F (h .mode) r o (h .held), F .counts .jobs, F .counts .objects)
 
-    lowest-below : (j r o : ℕ) → r ≢ j → lockWeight r o < 256 → lowestKey s j ≤ lockKey (lockWeight r o) r o
+    lowest-below : (j r o : ℕ) → r ≢ j → lockWeight r o < noWeight → lowestKey s j ≤ lockKey (lockWeight r o) r o
     lowest-below j r o d l =
         let h = lock-held r o l in
         let lock = others-lock s F j (h .mode) r o (record { mode = h .known; other = d; held = h .held }) in
         omega (arith, key-below (weight s) s j (h .mode) r o lock, h .weighs)
 
-    pub lowest : (j : ℕ) → Lowest 256 lockWeight j (lowestKey s j)
+    pub lowest : (j : ℕ) → Lowest noWeight lockWeight j (lowestKey s j)
     lowest j = record { below = lowest-below j; found = found (key-at (weight s) s j) }
       where
         found : (lowestKey s j ≡ noKey) ⊎ KeyOfOther (weight s) s j (lowestKey s j)
-            → (256 ≤ keyWeight (lowestKey s j))
+            → (noWeight ≤ keyWeight (lowestKey s j))
             ⊎ ((r : ℕ) × (o : ℕ) × (r ≢ j) × (r < 256) × (o < 256) × (lowestKey s j ≡ lockKey (lockWeight r o) r o))
         found (inl e) = inl (omega arith)
         found (inr w) =
@@ -133,17 +129,17 @@ module _ (s : State) where
             let o = w .object in
             let L = w .lock in
             let up = lock-below (w .mode) r o (L .mode) (L .held) in
-            let small : lockWeight r o < 256 = omega (arith, weight-small (w .mode) r o) in
+            let small : lockWeight r o < noWeight = omega (arith, weight-small (w .mode) r o) in
             let z = lock-small r o small in
             inr (r, o, L .other, z .0, z .1, omega (arith, lowest-below j r o (L .other) small, w .is))
 
-    pub passes-all : (j : ℕ) → j < 256 → passes s j ≡ true → Passes lockWeight j
+    pub passes-all : (j : ℕ) → j < noWeight → passes s j ≡ true → Passes lockWeight j
     passes-all j l e = key-passes (lowest j) l lock-small (ltb-true j (keyWeight (lowestKey s j)) e)
 
-    pub fails-blocked : (j : ℕ) → j < 256 → passes s j ≡ false → Blocked lockWeight j
+    pub fails-blocked : (j : ℕ) → j < noWeight → passes s j ≡ false → Blocked lockWeight j
     fails-blocked j l e = key-blocked (lowest j) l lock-small (ltb-false j (keyWeight (lowestKey s j)) e)
 
-    pub blocked-fails : (j : ℕ) → j < 256 → Blocked lockWeight j → passes s j ≡ false
+    pub blocked-fails : (j : ℕ) → j < noWeight → Blocked lockWeight j → passes s j ≡ false
     blocked-fails j l b = go (passes s j) refl
       where
         go : (t : Bool) → passes s j ≡ t → t ≡ false

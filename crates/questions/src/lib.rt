@@ -34,9 +34,7 @@ pub fn inherited_rank(state: State, rank: u8) -> RankAnswer
     ensures { λ r. ⌜ (r ≡ Q.askInheritedRank state rank) × Sized state ⌝ }
 {
     ask_inherited_rank(
-        state.processors,
-        state.jobs,
-        state.objects,
+        state.counts,
         &state.processor_of,
         &state.may_read,
         &state.may_write,
@@ -54,9 +52,7 @@ pub fn named_lock(state: State, rank: u8) -> NamedAnswer
     ensures { λ r. ⌜ (r ≡ Q.askNamedLock state rank) × Sized state ⌝ }
 {
     ask_named_lock(
-        state.processors,
-        state.jobs,
-        state.objects,
+        state.counts,
         &state.processor_of,
         &state.may_read,
         &state.may_write,
@@ -74,9 +70,7 @@ pub fn ceilings(state: State, object: u8) -> CeilingsAnswer
     ensures { λ r. ⌜ (r ≡ Q.askCeilings state object) × Sized state ⌝ }
 {
     ask_ceilings(
-        state.processors,
-        state.jobs,
-        state.objects,
+        state.counts,
         &state.processor_of,
         &state.may_read,
         &state.may_write,
@@ -94,9 +88,7 @@ pub fn running(state: State, processor: u8) -> RankAnswer
     ensures { λ r. ⌜ (r ≡ Q.askRunning state processor) × Sized state ⌝ }
 {
     ask_running(
-        state.processors,
-        state.jobs,
-        state.objects,
+        state.counts,
         &state.processor_of,
         &state.may_read,
         &state.may_write,

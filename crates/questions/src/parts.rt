@@ -10,33 +10,30 @@ use refusals::job_refusal;
 use refusals::object_refusal;
 use refusals::processor_refusal;
 use refusals::set_of;
+use state::Counts;
 use state::JobProcessors;
 use state::JobRequests;
-use state::ObjectSets;
+use state::Sets;
 use state::fits;
 
 // A job's inherited rank: the most urgent of its own and those of the waiting jobs that name it.
 pub fn ask_inherited_rank<'a>(
-    processors: u8,
-    jobs: u8,
-    objects: u8,
+    counts: Counts,
     processor_of: &'a JobProcessors,
-    may_read: &'a ObjectSets,
-    may_write: &'a ObjectSets,
+    may_read: Sets<'a>,
+    may_write: Sets<'a>,
     active: RankSet,
     unlocked: RankSet,
-    readers: &'a ObjectSets,
-    writers: &'a ObjectSets,
+    readers: Sets<'a>,
+    writers: Sets<'a>,
     request: &'a JobRequests,
     rank: u8,
 ) -> RankAnswer
-    ensures { λ r. ⌜ r ≡ Q.askInheritedRank (stateOf processors jobs objects (now («processor_of» .entry)) (now («may_read» .entry)) (now («may_write» .entry))
+    ensures { λ r. ⌜ r ≡ Q.askInheritedRank (stateOf counts (now («processor_of» .entry)) (now («may_read» .entry)) (now («may_write» .entry))
         active unlocked (now (readers .entry)) (now (writers .entry)) (now (request .entry))) rank ⌝ }
 {
     let well = fits(
-        processors,
-        jobs,
-        objects,
+        counts,
         processor_of,
         may_read,
         may_write,
@@ -46,13 +43,12 @@ pub fn ask_inherited_rank<'a>(
         writers,
         request,
     );
-    let number = job_refusal(well, jobs, active, rank);
+    let number = job_refusal(well, counts.jobs, active, rank);
     if number != 0 {
         return RankAnswer::Refused(number);
     }
     RankAnswer::Rank(inheritance::inherited_rank(
-        jobs,
-        objects,
+        counts,
         may_read,
         may_write,
         readers,
@@ -64,26 +60,22 @@ pub fn ask_inherited_rank<'a>(
 
 // The lock that a job names: its holder and object, 0 and 0 if it names nobody.
 pub fn ask_named_lock<'a>(
-    processors: u8,
-    jobs: u8,
-    objects: u8,
+    counts: Counts,
     processor_of: &'a JobProcessors,
-    may_read: &'a ObjectSets,
-    may_write: &'a ObjectSets,
+    may_read: Sets<'a>,
+    may_write: Sets<'a>,
     active: RankSet,
     unlocked: RankSet,
-    readers: &'a ObjectSets,
-    writers: &'a ObjectSets,
+    readers: Sets<'a>,
+    writers: Sets<'a>,
     request: &'a JobRequests,
     rank: u8,
 ) -> NamedAnswer
-    ensures { λ r. ⌜ r ≡ Q.askNamedLock (stateOf processors jobs objects (now («processor_of» .entry)) (now («may_read» .entry)) (now («may_write» .entry))
+    ensures { λ r. ⌜ r ≡ Q.askNamedLock (stateOf counts (now («processor_of» .entry)) (now («may_read» .entry)) (now («may_write» .entry))
         active unlocked (now (readers .entry)) (now (writers .entry)) (now (request .entry))) rank ⌝ }
 {
     let well = fits(
-        processors,
-        jobs,
-        objects,
+        counts,
         processor_of,
         may_read,
         may_write,
@@ -93,12 +85,12 @@ pub fn ask_named_lock<'a>(
         writers,
         request,
     );
-    let number = job_refusal(well, jobs, active, rank);
+    let number = job_refusal(well, counts.jobs, active, rank);
     if number != 0 {
         return NamedAnswer::Refused(number);
     }
     let key = rule::named_key(
-        objects,
+        counts,
         may_read,
         may_write,
         readers,
@@ -113,26 +105,22 @@ pub fn ask_named_lock<'a>(
 
 // An object's write ceiling and absolute ceiling.
 pub fn ask_ceilings<'a>(
-    processors: u8,
-    jobs: u8,
-    objects: u8,
+    counts: Counts,
     processor_of: &'a JobProcessors,
-    may_read: &'a ObjectSets,
-    may_write: &'a ObjectSets,
+    may_read: Sets<'a>,
+    may_write: Sets<'a>,
     active: RankSet,
     unlocked: RankSet,
-    readers: &'a ObjectSets,
-    writers: &'a ObjectSets,
+    readers: Sets<'a>,
+    writers: Sets<'a>,
     request: &'a JobRequests,
     object: u8,
 ) -> CeilingsAnswer
-    ensures { λ r. ⌜ r ≡ Q.askCeilings (stateOf processors jobs objects (now («processor_of» .entry)) (now («may_read» .entry)) (now («may_write» .entry))
+    ensures { λ r. ⌜ r ≡ Q.askCeilings (stateOf counts (now («processor_of» .entry)) (now («may_read» .entry)) (now («may_write» .entry))
         active unlocked (now (readers .entry)) (now (writers .entry)) (now (request .entry))) object ⌝ }
 {
     let well = fits(
-        processors,
-        jobs,
-        objects,
+        counts,
         processor_of,
         may_read,
         may_write,
@@ -142,7 +130,7 @@ pub fn ask_ceilings<'a>(
         writers,
         request,
     );
-    let number = object_refusal(well, objects, object);
+    let number = object_refusal(well, counts.objects, object);
     if number != 0 {
         return CeilingsAnswer::Refused(number);
     }
@@ -156,26 +144,22 @@ pub fn ask_ceilings<'a>(
 
 // The rank that a processor runs, 0 if it is idle.
 pub fn ask_running<'a>(
-    processors: u8,
-    jobs: u8,
-    objects: u8,
+    counts: Counts,
     processor_of: &'a JobProcessors,
-    may_read: &'a ObjectSets,
-    may_write: &'a ObjectSets,
+    may_read: Sets<'a>,
+    may_write: Sets<'a>,
     active: RankSet,
     unlocked: RankSet,
-    readers: &'a ObjectSets,
-    writers: &'a ObjectSets,
+    readers: Sets<'a>,
+    writers: Sets<'a>,
     request: &'a JobRequests,
     processor: u8,
 ) -> RankAnswer
-    ensures { λ r. ⌜ r ≡ Q.askRunning (stateOf processors jobs objects (now («processor_of» .entry)) (now («may_read» .entry)) (now («may_write» .entry))
+    ensures { λ r. ⌜ r ≡ Q.askRunning (stateOf counts (now («processor_of» .entry)) (now («may_read» .entry)) (now («may_write» .entry))
         active unlocked (now (readers .entry)) (now (writers .entry)) (now (request .entry))) processor ⌝ }
 {
     let well = fits(
-        processors,
-        jobs,
-        objects,
+        counts,
         processor_of,
         may_read,
         may_write,
@@ -185,13 +169,12 @@ pub fn ask_running<'a>(
         writers,
         request,
     );
-    let number = processor_refusal(well, processors, processor);
+    let number = processor_refusal(well, counts.processors, processor);
     if number != 0 {
         return RankAnswer::Refused(number);
     }
     RankAnswer::Rank(inheritance::running_rank(
-        jobs,
-        objects,
+        counts,
         processor_of,
         active,
         may_read,

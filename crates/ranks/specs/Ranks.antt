@@ -7,9 +7,13 @@ use lib.Dec.{leb, eqb}
 use lib.Bits.{bitAnd, bitOr, bitXor}
 use lib.Count.{ones, trailingZeros}
 
--- the largest rank (01: "A table has 1 to 64 jobs"; "Sets of ranks fit 64 bits")
-abbrev pub limit : ℕ
-limit = 64
+-- the bits of a word, and so the largest rank of a set that is one (01: "Sets of ranks fit 64 bits")
+abbrev pub wordBits : ℕ
+wordBits = 64
+
+-- whether a set has no member
+abbrev pub isEmpty : ℕ → Bool
+isEmpty set = eqb set 0
 
 -- 1 where the set has the rank i + 1, else 0
 abbrev pub bit : ℕ → ℕ → ℕ

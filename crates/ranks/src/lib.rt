@@ -1,14 +1,32 @@
-// Sets of ranks 1 to 64 as numbers: rank r is bit r - 1.
+// Sets of ranks as numbers of one word: rank r is bit r - 1.
 ghost use mathlib.Core.Path.{_≡_};
 ghost use Prim.Native.Nat.{_≤_};
+ghost use Rattle.basics.specs.Choice.{if_then_else_};
 ghost use Rattle.ranks.specs.Ranks as R;
 
 // A set of ranks.
 pub type RankSet = u64;
 
+// The set without ranks.
+pub const EMPTY: RankSet = 0;
+
+// Whether the set has no rank.
+pub fn is_empty(set: RankSet) -> bool
+    ensures { λ r. ⌜ r ≡ R.isEmpty set ⌝ }
+{
+    set == 0
+}
+
+// The set, if the test holds; else the empty set.
+pub fn kept(test: bool, set: RankSet) -> RankSet
+    ensures { λ r. ⌜ r ≡ (if test then set else 0) ⌝ }
+{
+    if test { set } else { 0 }
+}
+
 // Whether the set has the rank.
 pub fn contains(set: RankSet, rank: u8) -> bool
-    requires { ⌜ (1 ≤ rank) × (rank ≤ R.limit) ⌝ }
+    requires { ⌜ (1 ≤ rank) × (rank ≤ R.wordBits) ⌝ }
     ensures { λ r. ⌜ r ≡ R.member set rank ⌝ }
 {
     (set >> (rank - 1)) & 1 == 1
@@ -16,7 +34,7 @@ pub fn contains(set: RankSet, rank: u8) -> bool
 
 // The set with the rank put in.
 pub fn with(set: RankSet, rank: u8) -> RankSet
-    requires { ⌜ (1 ≤ rank) × (rank ≤ R.limit) ⌝ }
+    requires { ⌜ (1 ≤ rank) × (rank ≤ R.wordBits) ⌝ }
     ensures { λ r. ⌜ r ≡ R.with set rank ⌝ }
 {
     set | (1 << (rank - 1))
@@ -24,7 +42,7 @@ pub fn with(set: RankSet, rank: u8) -> RankSet
 
 // The set with the rank taken out.
 pub fn without(set: RankSet, rank: u8) -> RankSet
-    requires { ⌜ (1 ≤ rank) × (rank ≤ R.limit) ⌝ }
+    requires { ⌜ (1 ≤ rank) × (rank ≤ R.wordBits) ⌝ }
     ensures { λ r. ⌜ r ≡ R.without set rank ⌝ }
 {
     set ^ (set & (1 << (rank - 1)))
@@ -32,7 +50,7 @@ pub fn without(set: RankSet, rank: u8) -> RankSet
 
 // The most urgent rank of the set; one past the last rank where it is empty.
 pub fn first(set: RankSet) -> u8
-    ensures { λ r. ⌜ r ≡ R.first R.limit set ⌝ }
+    ensures { λ r. ⌜ r ≡ R.first R.wordBits set ⌝ }
 {
     (u64::trailing_zeros(set) + 1) as u8
 }
@@ -81,7 +99,7 @@ pub fn but_first(set: RankSet) -> RankSet
 
 // The ranks from 1 to the count.
 pub fn up_to(count: u8) -> RankSet
-    requires { ⌜ count ≤ R.limit ⌝ }
+    requires { ⌜ count ≤ R.wordBits ⌝ }
     ensures { λ r. ⌜ r ≡ R.upTo count ⌝ }
 {
     if count == 0 {

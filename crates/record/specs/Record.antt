@@ -34,7 +34,7 @@ lastLine n = if eqb (n % 3) 0 then endLine (n / 3) else shortLine
 abbrev pub recordBehind : TableRead → List ℕ → List ℕ
 recordBehind t bytes =
     if eqb (t .refusal) 0
-    then headerLine (t .state .jobs) (t .state .processors) (t .state .objects) ++ eventLines (t .state) 0 bytes ++ lastLine (length bytes)
+    then headerLine (t .state .counts) ++ eventLines (t .state) 0 bytes ++ lastLine (length bytes)
     else refusedLine (t .refusal)
 
 -- the record of an input

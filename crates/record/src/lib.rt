@@ -9,22 +9,22 @@ ghost use Rattle.decimals.specs.Laid.{Laid};
 ghost use Rattle.record.specs.Record.{eventLines, stateAfter};
 use lines::lay_event;
 use ranks::RankSet;
+use state::Counts;
 use state::JobProcessors;
 use state::JobRequests;
-use state::ObjectSets;
+use state::Sets;
+use state::SetsMut;
 
 // An event on the parts of a state, in place, and its line laid at the index; answers the index behind it.
 fn lay_answered<'a>(
-    processors: u8,
-    jobs: u8,
-    objects: u8,
+    counts: Counts,
     processor_of: &'a JobProcessors,
-    may_read: &'a ObjectSets,
-    may_write: &'a ObjectSets,
+    may_read: Sets<'a>,
+    may_write: Sets<'a>,
     active: &mut RankSet,
     unlocked: &mut RankSet,
-    readers: &mut ObjectSets,
-    writers: &mut ObjectSets,
+    readers: SetsMut,
+    writers: SetsMut,
     request: &mut JobRequests,
     buf: &mut [u8],
     at: usize,
@@ -34,15 +34,13 @@ fn lay_answered<'a>(
     object: u8,
 ) -> usize
     requires { ⌜ at + 45 ≤ length (now buf) ⌝ }
-    ensures { λ r. ⌜ (stateOf processors jobs objects (now («processor_of» .entry)) (now («may_read» .entry)) (now («may_write» .entry)) (now (active .exit)) (now (unlocked .exit)) (now (readers .exit)) (now (writers .exit)) (now (request .exit))
-        ≡ step (stateOf processors jobs objects (now («processor_of» .entry)) (now («may_read» .entry)) (now («may_write» .entry)) (now (active .entry)) (now (unlocked .entry)) (now (readers .entry)) (now (writers .entry)) (now (request .entry))) kind rank object .state)
+    ensures { λ r. ⌜ (stateOf counts (now («processor_of» .entry)) (now («may_read» .entry)) (now («may_write» .entry)) (now (active .exit)) (now (unlocked .exit)) (now (readers .exit)) (now (writers .exit)) (now (request .exit))
+        ≡ step (stateOf counts (now («processor_of» .entry)) (now («may_read» .entry)) (now («may_write» .entry)) (now (active .entry)) (now (unlocked .entry)) (now (readers .entry)) (now (writers .entry)) (now (request .entry))) kind rank object .state)
         × Laid (now (buf .entry)) (now (buf .exit)) at r 45 (eventLine number kind rank object
-        (step (stateOf processors jobs objects (now («processor_of» .entry)) (now («may_read» .entry)) (now («may_write» .entry)) (now (active .entry)) (now (unlocked .entry)) (now (readers .entry)) (now (writers .entry)) (now (request .entry))) kind rank object .answer)) ⌝ }
+        (step (stateOf counts (now («processor_of» .entry)) (now («may_read» .entry)) (now («may_write» .entry)) (now (active .entry)) (now (unlocked .entry)) (now (readers .entry)) (now (writers .entry)) (now (request .entry))) kind rank object .answer)) ⌝ }
 {
     let answer = manager::act(
-        processors,
-        jobs,
-        objects,
+        counts,
         processor_of,
         may_read,
         may_write,
@@ -61,26 +59,24 @@ fn lay_answered<'a>(
 // The events in the bytes, with so many before them, on the parts of a state, in place; one or two bytes left over are not looked at.
 // Their lines are laid at the front of the buffer; answers the lines' length.
 pub fn lay_events<'a>(
-    processors: u8,
-    jobs: u8,
-    objects: u8,
+    counts: Counts,
     processor_of: &'a JobProcessors,
-    may_read: &'a ObjectSets,
-    may_write: &'a ObjectSets,
+    may_read: Sets<'a>,
+    may_write: Sets<'a>,
     active: &mut RankSet,
     unlocked: &mut RankSet,
-    readers: &mut ObjectSets,
-    writers: &mut ObjectSets,
+    readers: SetsMut,
+    writers: SetsMut,
     request: &mut JobRequests,
     buf: &mut [u8],
     events: u64,
     bytes: &[u8],
 ) -> usize
     requires { ⌜ (15 * length (now bytes) ≤ length (now buf)) × (events + length (now bytes) / 3 < 2 ^ 64) ⌝ }
-    ensures { λ r. ⌜ (stateOf processors jobs objects (now («processor_of» .entry)) (now («may_read» .entry)) (now («may_write» .entry)) (now (active .exit)) (now (unlocked .exit)) (now (readers .exit)) (now (writers .exit)) (now (request .exit))
-        ≡ stateAfter (stateOf processors jobs objects (now («processor_of» .entry)) (now («may_read» .entry)) (now («may_write» .entry)) (now (active .entry)) (now (unlocked .entry)) (now (readers .entry)) (now (writers .entry)) (now (request .entry))) (now (bytes .entry)))
+    ensures { λ r. ⌜ (stateOf counts (now («processor_of» .entry)) (now («may_read» .entry)) (now («may_write» .entry)) (now (active .exit)) (now (unlocked .exit)) (now (readers .exit)) (now (writers .exit)) (now (request .exit))
+        ≡ stateAfter (stateOf counts (now («processor_of» .entry)) (now («may_read» .entry)) (now («may_write» .entry)) (now (active .entry)) (now (unlocked .entry)) (now (readers .entry)) (now (writers .entry)) (now (request .entry))) (now (bytes .entry)))
         × Laid (now (buf .entry)) (now (buf .exit)) 0 r (15 * length (now (bytes .entry)))
-        (eventLines (stateOf processors jobs objects (now («processor_of» .entry)) (now («may_read» .entry)) (now («may_write» .entry)) (now (active .entry)) (now (unlocked .entry)) (now (readers .entry)) (now (writers .entry)) (now (request .entry))) events (now (bytes .entry))) ⌝ }
+        (eventLines (stateOf counts (now («processor_of» .entry)) (now («may_read» .entry)) (now («may_write» .entry)) (now (active .entry)) (now (unlocked .entry)) (now (readers .entry)) (now (writers .entry)) (now (request .entry))) events (now (bytes .entry))) ⌝ }
 {
     let mut at = 0;
     let mut end = 0;
@@ -88,9 +84,7 @@ pub fn lay_events<'a>(
     while bytes.len() - at >= 3 {
         number += 1;
         end = lay_answered(
-            processors,
-            jobs,
-            objects,
+            counts,
             processor_of,
             may_read,
             may_write,

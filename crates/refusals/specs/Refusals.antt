@@ -48,18 +48,18 @@ abbrev pub jobRefusalOf : Bool → ℕ → ℕ → ℕ → ℕ
 jobRefusalOf well jobs active r = 8 if not well else 10 if not (between 1 jobs r) else 13 if not (member active r) else 0
 
 unfoldable pub jobRefusal : State → ℕ → ℕ
-jobRefusal s r = jobRefusalOf (wellFormed s) (s .jobs) (s .active) r
+jobRefusal s r = jobRefusalOf (wellFormed s) (s .counts .jobs) (s .active) r
 
 -- "for an object's two ceilings 8, 11"
 abbrev pub objectRefusalOf : Bool → ℕ → ℕ → ℕ
 objectRefusalOf well objects o = 8 if not well else 11 if not (between 1 objects o) else 0
 
 unfoldable pub objectRefusal : State → ℕ → ℕ
-objectRefusal s o = objectRefusalOf (wellFormed s) (s .objects) o
+objectRefusal s o = objectRefusalOf (wellFormed s) (s .counts .objects) o
 
 -- "for the rank a processor runs (0 if idle) 8, 19": "processor number not in the table"
 abbrev pub processorRefusalOf : Bool → ℕ → ℕ → ℕ
 processorRefusalOf well processors p = 8 if not well else 19 if not (ltb p processors) else 0
 
 unfoldable pub processorRefusal : State → ℕ → ℕ
-processorRefusal s p = processorRefusalOf (wellFormed s) (s .processors) p
+processorRefusal s p = processorRefusalOf (wellFormed s) (s .counts .processors) p

@@ -6,12 +6,13 @@ ghost use Prim.Native.Nat.{ℕ, _≤_};
 ghost use lib.Dec.{eqb};
 ghost use Rattle.basics.specs.Choice.{_if_else_};
 ghost use Rattle.basics.specs.Arrays.{at};
-ghost use Rattle.state.specs.State.{stateOf};
+ghost use Rattle.state.specs.State.{mostJobs, mostObjects, stateOf};
 ghost use Rattle.refusals.specs.Refusals as R;
 ghost use Rattle.refusals.specs.Parts as P;
 use ranks::RankSet;
+use state::Counts;
 use state::JobRequests;
-use state::ObjectSets;
+use state::Sets;
 use state::of_mode;
 use state::within;
 
@@ -23,12 +24,12 @@ fn refused_if(number: u8, test: bool, rest: u8) -> u8
 }
 
 // The set of an object; the empty set for object 0.
-pub fn set_of(sets: &ObjectSets, object: u8) -> RankSet
-    requires { ⌜ object ≤ 128 ⌝ }
+pub fn set_of(sets: Sets, object: u8) -> RankSet
+    requires { ⌜ object ≤ mostObjects ⌝ }
     ensures { λ r. ⌜ r ≡ at (now (sets .entry)) object ⌝ }
 {
     if object == 0 {
-        return 0;
+        return ranks::EMPTY;
     }
     sets[(object - 1) as usize]
 }
@@ -42,19 +43,19 @@ fn job_event_refusal(active: bool, waiting: bool, rest: u8) -> u8
 
 // Whether the rank has a request that waits.
 fn is_waiting(request: &JobRequests, rank: u8) -> bool
-    requires { ⌜ (1 ≤ rank) × (rank ≤ 64) ⌝ }
+    requires { ⌜ (1 ≤ rank) × (rank ≤ mostJobs) ⌝ }
     ensures { λ r. ⌜ r ≡ not (eqb (at (now (request .entry)) rank) 0) ⌝ }
 {
     request[(rank - 1) as usize] != 0
 }
 
 // 10 to 12, of a start.
-pub fn start_refusal(jobs: u8, active: RankSet, rank: u8, object: u8) -> u8
-    requires { ⌜ jobs ≤ 64 ⌝ }
-    ensures { λ r. ⌜ ((p o u : ℕ) (ps mr mw rs ws q : List ℕ) →
-        r ≡ R.eventRefusal (stateOf p jobs o ps mr mw active u rs ws q) 1 rank object) ⌝ }
+pub fn start_refusal(counts: Counts, active: RankSet, rank: u8, object: u8) -> u8
+    requires { ⌜ counts .jobs ≤ mostJobs ⌝ }
+    ensures { λ r. ⌜ ((u : ℕ) (ps mr mw rs ws q : List ℕ) →
+        r ≡ R.eventRefusal (stateOf counts ps mr mw active u rs ws q) 1 rank object) ⌝ }
 {
-    if !within(1, jobs, rank) {
+    if !within(1, counts.jobs, rank) {
         return 10;
     }
     refused_if(
@@ -74,7 +75,7 @@ fn right_refusal(
     readers: RankSet,
     writers: RankSet,
 ) -> u8
-    requires { ⌜ (1 ≤ rank) × (rank ≤ 64) ⌝ }
+    requires { ⌜ (1 ≤ rank) × (rank ≤ mostJobs) ⌝ }
     ensures { λ r. ⌜ r ≡ P.rightRefusal mode rank unlocked «may_read» «may_write» readers writers ⌝ }
 {
     let right = ranks::contains(of_mode(mode, may_read, may_write), rank);
@@ -87,28 +88,27 @@ fn right_refusal(
 
 // 10, 11 and 13 to 17, of a request for a lock: kind 2 to read, 3 to write.
 pub fn lock_refusal<'a>(
-    jobs: u8,
-    objects: u8,
-    may_read: &'a ObjectSets,
-    may_write: &'a ObjectSets,
+    counts: Counts,
+    may_read: Sets<'a>,
+    may_write: Sets<'a>,
     active: RankSet,
     unlocked: RankSet,
-    readers: &'a ObjectSets,
-    writers: &'a ObjectSets,
+    readers: Sets<'a>,
+    writers: Sets<'a>,
     request: &'a JobRequests,
     kind: u8,
     rank: u8,
     object: u8,
 ) -> u8
-    requires { ⌜ (jobs ≤ 64) × (objects ≤ 128) × (2 ≤ kind) × (kind ≤ 3) ⌝ }
-    ensures { λ r. ⌜ ((p : ℕ) (ps : List ℕ) →
-        r ≡ R.eventRefusal (stateOf p jobs objects ps (now («may_read» .entry)) (now («may_write» .entry)) active unlocked
+    requires { ⌜ (counts .jobs ≤ mostJobs) × (counts .objects ≤ mostObjects) × (2 ≤ kind) × (kind ≤ 3) ⌝ }
+    ensures { λ r. ⌜ ((ps : List ℕ) →
+        r ≡ R.eventRefusal (stateOf counts ps (now («may_read» .entry)) (now («may_write» .entry)) active unlocked
         (now (readers .entry)) (now (writers .entry)) (now (request .entry))) kind rank object) ⌝ }
 {
-    if !within(1, jobs, rank) {
+    if !within(1, counts.jobs, rank) {
         return 10;
     }
-    if !within(1, objects, object) {
+    if !within(1, counts.objects, object) {
         return 11;
     }
     let right = right_refusal(
@@ -129,23 +129,22 @@ pub fn lock_refusal<'a>(
 
 // 10, 11, 13, 14 and 18, of an unlock.
 pub fn unlock_refusal<'a>(
-    jobs: u8,
-    objects: u8,
+    counts: Counts,
     active: RankSet,
-    readers: &'a ObjectSets,
-    writers: &'a ObjectSets,
+    readers: Sets<'a>,
+    writers: Sets<'a>,
     request: &'a JobRequests,
     rank: u8,
     object: u8,
 ) -> u8
-    requires { ⌜ (jobs ≤ 64) × (objects ≤ 128) ⌝ }
-    ensures { λ r. ⌜ ((p u : ℕ) (ps mr mw : List ℕ) →
-        r ≡ R.eventRefusal (stateOf p jobs objects ps mr mw active u (now (readers .entry)) (now (writers .entry)) (now (request .entry))) 4 rank object) ⌝ }
+    requires { ⌜ (counts .jobs ≤ mostJobs) × (counts .objects ≤ mostObjects) ⌝ }
+    ensures { λ r. ⌜ ((u : ℕ) (ps mr mw : List ℕ) →
+        r ≡ R.eventRefusal (stateOf counts ps mr mw active u (now (readers .entry)) (now (writers .entry)) (now (request .entry))) 4 rank object) ⌝ }
 {
-    if !within(1, jobs, rank) {
+    if !within(1, counts.jobs, rank) {
         return 10;
     }
-    if !within(1, objects, object) {
+    if !within(1, counts.objects, object) {
         return 11;
     }
     let read = ranks::contains(set_of(readers, object), rank);
@@ -159,18 +158,18 @@ pub fn unlock_refusal<'a>(
 
 // 10, 11, 13 and 14, of kind 5, a finish, or kind 6, an abandonment.
 pub fn finish_refusal(
-    jobs: u8,
+    counts: Counts,
     active: RankSet,
     request: &JobRequests,
     kind: u8,
     rank: u8,
     object: u8,
 ) -> u8
-    requires { ⌜ (jobs ≤ 64) × (5 ≤ kind) × (kind ≤ 6) ⌝ }
-    ensures { λ r. ⌜ ((p o u : ℕ) (ps mr mw rs ws : List ℕ) →
-        r ≡ R.eventRefusal (stateOf p jobs o ps mr mw active u rs ws (now (request .entry))) kind rank object) ⌝ }
+    requires { ⌜ (counts .jobs ≤ mostJobs) × (5 ≤ kind) × (kind ≤ 6) ⌝ }
+    ensures { λ r. ⌜ ((u : ℕ) (ps mr mw rs ws : List ℕ) →
+        r ≡ R.eventRefusal (stateOf counts ps mr mw active u rs ws (now (request .entry))) kind rank object) ⌝ }
 {
-    if !within(1, jobs, rank) {
+    if !within(1, counts.jobs, rank) {
         return 10;
     }
     let job = job_event_refusal(
@@ -183,7 +182,7 @@ pub fn finish_refusal(
 
 // 8, 10 and 13, of a question for a job in a state that is well formed or not.
 pub fn job_refusal(well: bool, jobs: u8, active: RankSet, rank: u8) -> u8
-    requires { ⌜ (well ≡ true → jobs ≤ 64) ⌝ }
+    requires { ⌜ (well ≡ true → jobs ≤ mostJobs) ⌝ }
     ensures { λ r. ⌜ r ≡ R.jobRefusalOf well jobs active rank ⌝ }
 {
     if !well {

@@ -13,6 +13,7 @@ use borrow.Author.Tests.{ne-eqb, eq-eqb, lt-ltb, le-ltb, ltb-false}
 use Rattle.basics.specs.Choice.{if_then_else_, _orElse_}
 use Rattle.basics.specs.Loops.{least, least-le, firstNonzero, first-nonzero-more, first-nonzero-keeps}
 use Rattle.ranks.specs.Ranks.{member}
+use Rattle.state.specs.declared.Counts.{Counts}
 use Rattle.state.specs.State.{write, isWaiting}
 use Rattle.weights.specs.Weights.{ceilingOf}
 use Rattle.weights.specs.Keys.{noKey, lowestKey}
@@ -53,20 +54,20 @@ module _ (m o h p writers mayWrite : ℕ) where
 
 -- ---- the search
 
-module _ (jobs objects : ℕ) (mayRead mayWrite readers writers request : List ℕ) where
+module _ (counts : Counts) (mayRead mayWrite readers writers request : List ℕ) where
   abbrev woken : ℕ → ℕ
-  woken = wakes (waitsState jobs objects mayRead mayWrite readers writers request)
+  woken = wakes (waitsState counts mayRead mayWrite readers writers request)
 
   idle : (n : ℕ) → getD request n 0 ≡ 0 → woken (n + 1) ≡ 0
   idle n e = simp (at-next, e)
 
-  stopped : (j o : ℕ) → 1 ≤ o → o ≤ objects → passesBelow j (keyAt mayRead mayWrite readers writers j o) ≡ false → woken j ≡ 0
+  stopped : (j o : ℕ) → 1 ≤ o → o ≤ counts .objects → passesBelow j (keyAt mayRead mayWrite readers writers j o) ≡ false → woken j ≡ 0
   stopped j o p h b =
       let key = keyAt mayRead mayWrite readers writers j in
-      let s = waitsState jobs objects mayRead mayWrite readers writers request in
+      let s = waitsState counts mayRead mayWrite readers writers request in
       let no : passes s j ≡ false =
       le-ltb j (lowestKey s j / 65536)
-      (omega (arith, ltb-false j (key o / 65536) b, least-le objects noKey key o p h, waits-key jobs objects mayRead mayWrite readers writers request j))
+      (omega (arith, ltb-false j (key o / 65536) b, least-le (counts .objects) noKey key o p h, waits-key counts mayRead mayWrite readers writers request j))
       in
       go (isWaiting s j) (passes s j) no
     where
@@ -74,12 +75,12 @@ module _ (jobs objects : ℕ) (mayRead mayWrite readers writers request : List �
       go true b e = simp e
       go false b e = refl
 
-  let-by : (n : ℕ) → getD request n 0 ≢ 0 → (n + 1 + 1) * 65536 ≤ least objects noKey (keyAt mayRead mayWrite readers writers (n + 1))
+  let-by : (n : ℕ) → getD request n 0 ≢ 0 → (n + 1 + 1) * 65536 ≤ least (counts .objects) noKey (keyAt mayRead mayWrite readers writers (n + 1))
       → woken (n + 1) ≡ n + 1
   let-by n w l =
-      let s = waitsState jobs objects mayRead mayWrite readers writers request in
+      let s = waitsState counts mayRead mayWrite readers writers request in
       let pass : passes s (n + 1) ≡ true =
-      lt-ltb (n + 1) (lowestKey s (n + 1) / 65536) (omega (arith, waits-key jobs objects mayRead mayWrite readers writers request (n + 1)))
+      lt-ltb (n + 1) (lowestKey s (n + 1) / 65536) (omega (arith, waits-key counts mayRead mayWrite readers writers request (n + 1)))
       in
       let waits : isWaiting s (n + 1) ≡ true = ap (λ (q : ℕ). not (eqb q 0)) (at-next request n) ∙ ap not (ne-eqb (getD request n 0) 0 w) in
       simp (waits, pass)
@@ -91,14 +92,14 @@ module _ (jobs objects : ℕ) (mayRead mayWrite readers writers request : List �
     pub pass-idle : getD request n 0 ≡ 0 → firstNonzero (n + 1) woken ≡ 0
     pass-idle e = none-more (idle n e)
 
-    pub pass-stopped : (o : ℕ) → 1 ≤ o → o ≤ objects → passesBelow (n + 1) (keyAt mayRead mayWrite readers writers (n + 1) o) ≡ false
+    pub pass-stopped : (o : ℕ) → 1 ≤ o → o ≤ counts .objects → passesBelow (n + 1) (keyAt mayRead mayWrite readers writers (n + 1) o) ≡ false
         → firstNonzero (n + 1) woken ≡ 0
     pass-stopped o p h b = none-more (stopped (n + 1) o p h b)
 
-    pub found : n < jobs → getD request n 0 ≢ 0 → (n + 1 + 1) * 65536 ≤ least objects noKey (keyAt mayRead mayWrite readers writers (n + 1))
-        → n + 1 ≡ firstNonzero jobs woken
+    pub found : n < counts .jobs → getD request n 0 ≢ 0 → (n + 1 + 1) * 65536 ≤ least (counts .objects) noKey (keyAt mayRead mayWrite readers writers (n + 1))
+        → n + 1 ≡ firstNonzero (counts .jobs) woken
     found h w l =
         let here : firstNonzero (n + 1) woken ≡ suc n =
         first-nonzero-more n woken ∙ ap (λ (a : ℕ). a orElse woken (n + 1)) passed ∙ let-by n w l ∙ add-one n
         in
-        sym (first-nonzero-keeps (n + 1) jobs woken n here (omega arith) ∙ sym (add-one n))
+        sym (first-nonzero-keeps (n + 1) (counts .jobs) woken n here (omega arith) ∙ sym (add-one n))

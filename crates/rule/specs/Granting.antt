@@ -53,4 +53,4 @@ wakes s j = if isWaiting s j && passes s j then j else 0
 
 -- "the waiting jobs are searched from the most urgent on, and the search stops with the first whose request passes": that rank, or 0
 unfoldable pub wakeable : State → ℕ
-wakeable s = firstNonzero (s .jobs) (wakes s)
+wakeable s = firstNonzero (s .counts .jobs) (wakes s)

@@ -9,9 +9,9 @@ use native.Mathlib.Omega.{arith}
 use native.Mathlib.Decide.{decLt}
 use lib.Dec.{eqb}
 use borrow.Author.Tests.{ltb-true, ltb-false, lt-ltb, eqb-false, not-true}
-use Rattle.ranks.specs.Ranks.{limit}
 use Rattle.state.specs.declared.State.{State}
-use Rattle.state.specs.State.{read, write, holds, requestOf, isWaiting}
+use Rattle.state.specs.State.{mostJobs, holds, requestOf, isWaiting}
+use Rattle.state.specs.Modes.{Mode}
 use Rattle.state.specs.WellFormed.{wellFormed}
 use Rattle.state.specs.Facts.{Sized, Facts}
 use Rattle.state.specs.WellFormedFacts.{facts, held-rank, held-object, waiting-rank}
@@ -24,7 +24,7 @@ use Rattle.rule.specs.Granting.{passes, namedKey, namedHolder, namedObje
 
 -- r, another job than j, holds the lock of mode m on object o: "Own locks don't count."
 pub record HeldByAnother (s : State) (j m r o : ℕ) : Type 0 where
-  pub mode : (m ≡ read) ⊎ (m ≡ write)
+  pub mode : Mode m
   pub other : r ≢ j
   pub held : holds s m r o ≡ true
 
@@ -88,13 +88,13 @@ module _ (s : State) (F : Facts s) where
       let k = others-lock j m r o l in
       omega (arith, ltb-true j (keyWeight (lowestKey s j)) e, key-below (weight s) s j m r o k, k .rank, k .object, F .counts .objects)
 
-  more-urgent-passes : (j : ℕ) → j ≤ limit → MoreUrgentThanOthers s j → passes s j ≡ true
+  more-urgent-passes : (j : ℕ) → j ≤ mostJobs → MoreUrgentThanOthers s j → passes s j ≡ true
   more-urgent-passes j h all =
       let each : (m r o : ℕ) → OthersLock s j m r o → (j + 1) * 65536 ≤ lockKey (weight s m r o) r o =
       λ m r o l. omega (arith, all m r o (held-by-another l)) in
       lt-ltb j (keyWeight (lowestKey s j)) (omega (arith, le-key (weight s) s j ((j + 1) * 65536) (omega arith) each))
 
-  lowest-first : (j : ℕ) → j ≤ limit → passes s j ≡ false → FirstOfOthers s j (stoppingHolder s j) (stoppingObject s j)
+  lowest-first : (j : ℕ) → j ≤ mostJobs → passes s j ≡ false → FirstOfOthers s j (stoppingHolder s j) (stoppingObject s j)
   lowest-first j h e =
       go (lowestKey s j) (ltb-false j (keyWeight (lowestKey s j)) e) (key-below (weight s) s j) (key-at (weight s) s j)
     where
@@ -120,12 +120,12 @@ module _ (s : State) (F : Facts s) where
 
 -- "A request is granted if the requester's rank is more urgent than the weight of every lock held by others. Own locks don't count."
 -- "Otherwise the job waits."
-pub passes-iff : (s : State) → Sized s → wellFormed s ≡ true → (j : ℕ) → j ≤ limit → (passes s j ≡ true) ↔ MoreUrgentThanOthers s j
+pub passes-iff : (s : State) → Sized s → wellFormed s ≡ true → (j : ℕ) → j ≤ mostJobs → (passes s j ≡ true) ↔ MoreUrgentThanOthers s j
 passes-iff s z w j h = (passes-more-urgent s (facts s z w) j, more-urgent-passes s (facts s z w) j h)
 
 -- The lock that stops a request is "the lock of another job with the most urgent weight, ties going to the lowest rank number and then the lowest
 -- object number".
-pub stopping-lock : (s : State) → Sized s → wellFormed s ≡ true → (j : ℕ) → j ≤ limit → passes s j ≡ false
+pub stopping-lock : (s : State) → Sized s → wellFormed s ≡ true → (j : ℕ) → j ≤ mostJobs → passes s j ≡ false
     → FirstOfOthers s j (stoppingHolder s j) (stoppingObject s j)
 stopping-lock s z w = lowest-first s (facts s z w)
 

@@ -5,6 +5,7 @@ use mathlib.Core.Path.{_≡_, refl, _∙_}
 use mathlib.Core.List.{List, []}
 use Prim.Native.Nat.{ℕ}
 use Rattle.basics.specs.Loops.{least}
+use Rattle.state.specs.declared.Counts.{Counts}
 use Rattle.state.specs.declared.State.{State}
 use Rattle.state.specs.State.{stateOf, holders, declared, requestOf, write}
 use Rattle.weights.specs.Weights.{weight}
@@ -12,13 +13,13 @@ use Rattle.weights.specs.Keys.{noKey, othersKey, objectKey, lowestKey, lowestKe
 use Rattle.weights.specs.Parts.{locksOf, keyAt, lowest-key-parts, lowest-key-at}
 use Rattle.rule.specs.Granting.{namedKeyOf, namedKey, namedHolder, reasonOf, reason, wakeable}
 
--- a state with these declarations and locks on so many objects, and with these requests of so many jobs
-abbrev pub waitsState : ℕ → ℕ → List ℕ → List ℕ → List ℕ → List ℕ → List ℕ → State
-waitsState jobs objects mayRead mayWrite readers writers request = stateOf 0 jobs objects [] mayRead mayWrite 0 0 readers writers request
+-- a state with these counts, declarations, locks and requests
+abbrev pub waitsState : Counts → List ℕ → List ℕ → List ℕ → List ℕ → List ℕ → State
+waitsState counts mayRead mayWrite readers writers request = stateOf counts [] mayRead mayWrite 0 0 readers writers request
 
 -- a state's parts
 abbrev pub waitsOf : State → State
-waitsOf s = waitsState (s .jobs) (s .objects) (s .«may_read») (s .«may_write») (s .readers) (s .writers) (s .request)
+waitsOf s = waitsState (s .counts) (s .«may_read») (s .«may_write») (s .readers) (s .writers) (s .request)
 
 -- ---- the same question about the parts
 
@@ -39,7 +40,7 @@ unfolding lowestKeyBy objectKey othersKey weight wakeable
 wakeable-parts s = refl
 
 -- the lowest key of a state with requests, by the arrays
-pub waits-key : (jobs objects : ℕ) (mayRead mayWrite readers writers request : List ℕ) (j : ℕ)
-    → lowestKey (waitsState jobs objects mayRead mayWrite readers writers request) j ≡ least objects noKey (keyAt mayRead mayWrite readers writers j)
-waits-key jobs objects mayRead mayWrite readers writers request j =
-    lowest-key-parts (waitsState jobs objects mayRead mayWrite readers writers request) j ∙ lowest-key-at objects mayRead mayWrite readers writers j
+pub waits-key : (counts : Counts) (mayRead mayWrite readers writers request : List ℕ) (j : ℕ)
+    → lowestKey (waitsState counts mayRead mayWrite readers writers request) j ≡ least (counts .objects) noKey (keyAt mayRead mayWrite readers writers j)
+waits-key counts mayRead mayWrite readers writers request j =
+    lowest-key-parts (waitsState counts mayRead mayWrite readers writers request) j ∙ lowest-key-at counts mayRead mayWrite readers writers j

@@ -62,12 +62,12 @@ module _ (s : State) where
       go false f true g q = (eqb-false (requestOf s i) 0 f, g)
       go false f false g q = absurd (omega arith)
 
-  pub wakeable-found : Found (s .jobs) (wakes s) (wakeable s)
+  pub wakeable-found : Found (s .counts .jobs) (wakes s) (wakeable s)
   unfolding wakeable
-  wakeable-found = found (s .jobs) (wakes s) wakes-or
+  wakeable-found = found (s .counts .jobs) (wakes s) wakes-or
 
   -- whoever is woken waits
-  pub woken-waits : wakeable s ≢ 0 → (wakeable s ≤ s .jobs) × (requestOf s (wakeable s) ≢ 0)
+  pub woken-waits : wakeable s ≢ 0 → (wakeable s ≤ s .counts .jobs) × (requestOf s (wakeable s) ≢ 0)
   woken-waits d = elim wakeable-found [
     | inl z ↦ absurd (d (z .0))
     | inr w ↦ (w .high, wakes-is (wakeable s) (w .low) (w .itself) .0)

@@ -2,15 +2,15 @@
 // A function sees the parts of a state that it asks about: numbers by value, a rank's or an object's array by reference.
 ghost use mathlib.Core.Path.{_≡_};
 ghost use Prim.Native.Nat.{_≤_};
-ghost use Rattle.ranks.specs.Ranks.{limit};
-ghost use Rattle.state.specs.State.{mostObjects};
+ghost use Rattle.state.specs.State.{mostJobs, mostObjects};
 ghost use Rattle.weights.specs.Keys.{lowestKey};
 ghost use Rattle.weights.specs.Parts.{locksState};
 ghost use Rattle.rule.specs.Granting as G;
 ghost use Rattle.rule.specs.Parts.{waitsState};
 use ranks::RankSet;
+use state::Counts;
 use state::JobRequests;
-use state::ObjectSets;
+use state::Sets;
 use weights::NO_KEY;
 use weights::ceiling;
 use weights::key_at;
@@ -25,21 +25,21 @@ pub fn passes(rank: u8, key: u64) -> bool
 
 // The key of the lock that the rank names while it has the request; no lock's where it does not wait or its request passes.
 pub fn named_key<'a>(
-    objects: u8,
-    may_read: &'a ObjectSets,
-    may_write: &'a ObjectSets,
-    readers: &'a ObjectSets,
-    writers: &'a ObjectSets,
+    counts: Counts,
+    may_read: Sets<'a>,
+    may_write: Sets<'a>,
+    readers: Sets<'a>,
+    writers: Sets<'a>,
     request: u16,
     rank: u8,
 ) -> u64
-    requires { ⌜ (objects ≤ mostObjects) × (1 ≤ rank) × (rank ≤ limit) ⌝ }
-    ensures { λ r. ⌜ r ≡ G.namedKeyOf request (lowestKey (locksState objects (now («may_read» .entry)) (now («may_write» .entry)) (now (readers .entry)) (now (writers .entry))) rank) rank ⌝ }
+    requires { ⌜ (counts .objects ≤ mostObjects) × (1 ≤ rank) × (rank ≤ mostJobs) ⌝ }
+    ensures { λ r. ⌜ r ≡ G.namedKeyOf request (lowestKey (locksState counts (now («may_read» .entry)) (now («may_write» .entry)) (now (readers .entry)) (now (writers .entry))) rank) rank ⌝ }
 {
     if request == 0 {
         return NO_KEY;
     }
-    let key = lowest_key(objects, may_read, may_write, readers, writers, rank);
+    let key = lowest_key(counts, may_read, may_write, readers, writers, rank);
     if passes(rank, key) { NO_KEY } else { key }
 }
 
@@ -53,7 +53,7 @@ pub fn reason(
     writers: RankSet,
     may_write: RankSet,
 ) -> u8
-    requires { ⌜ (1 ≤ holder) × (holder ≤ limit) ⌝ }
+    requires { ⌜ (1 ≤ holder) × (holder ≤ mostJobs) ⌝ }
     ensures { λ r. ⌜ r ≡ G.reasonOf mode object holder named writers «may_write» ⌝ }
 {
     let written = ranks::contains(writers, holder);
@@ -68,27 +68,26 @@ pub fn reason(
 
 // The most urgent waiting rank whose request passes, and 0 where none does.
 pub fn wakeable<'a>(
-    jobs: u8,
-    objects: u8,
-    may_read: &'a ObjectSets,
-    may_write: &'a ObjectSets,
-    readers: &'a ObjectSets,
-    writers: &'a ObjectSets,
+    counts: Counts,
+    may_read: Sets<'a>,
+    may_write: Sets<'a>,
+    readers: Sets<'a>,
+    writers: Sets<'a>,
     request: &'a JobRequests,
 ) -> u8
-    requires { ⌜ (jobs ≤ limit) × (objects ≤ mostObjects) ⌝ }
-    ensures { λ r. ⌜ r ≡ G.wakeable (waitsState jobs objects (now («may_read» .entry)) (now («may_write» .entry)) (now (readers .entry)) (now (writers .entry)) (now (request .entry))) ⌝ }
+    requires { ⌜ (counts .jobs ≤ mostJobs) × (counts .objects ≤ mostObjects) ⌝ }
+    ensures { λ r. ⌜ r ≡ G.wakeable (waitsState counts (now («may_read» .entry)) (now («may_write» .entry)) (now (readers .entry)) (now (writers .entry)) (now (request .entry))) ⌝ }
 {
     let mut rank: u8 = 0;
     'search: loop {
-        if rank == jobs {
+        if rank == counts.jobs {
             break 'search 0;
         }
         let at = rank as usize;
         rank += 1;
         if request[at] != 0 {
             let mut done: u8 = 0;
-            while done < objects {
+            while done < counts.objects {
                 done += 1;
                 let key = key_at(may_read, may_write, readers, writers, done, rank);
                 if !passes(rank, key) {

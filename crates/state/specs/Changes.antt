@@ -10,10 +10,10 @@ use native.Mathlib.Decide.{ℕ-discrete}
 use lib.Dec.{eqb}
 use Rattle.basics.specs.Choice.{if_then_else_}
 use Rattle.basics.specs.Arrays.{at, put, at-put-same, at-put-other, at-mapped}
-use Rattle.ranks.specs.Ranks.{limit, member, with, without}
+use Rattle.ranks.specs.Ranks.{member, with, without}
 use Rattle.ranks.specs.RankLaws.{member-with-other, member-without-same, member-without-other, with-lt, without-lt}
 use Rattle.state.specs.declared.State.{State}
-use Rattle.state.specs.State.{mostObjects, read, write, holders, holds, isActive, hasUnlocked, requestOf, requestFor, withLocks}
+use Rattle.state.specs.State.{mostJobs, mostObjects, read, write, holders, holds, isActive, hasUnlocked, requestOf, requestFor, withLocks}
 use Rattle.state.specs.State.{activate, await, grant, release, endRun}
 use Rattle.state.specs.Facts.{Sized, RequestFacts, Facts}
 use Rattle.state.specs.Modes.{either-mode}
@@ -143,7 +143,7 @@ module _ (s : State) (F : Facts s) (r : ℕ) where
   pub end-none : (m o : ℕ) → holds (endRun s r) m r o ≡ false
   end-none m o = ap (λ v. member v r) (end-holders m o) ∙ member-without-same (holders s m o) r
 
-  pub end-request : 1 ≤ r → r ≤ s .jobs → requestOf (endRun s r) r ≡ 0
+  pub end-request : 1 ≤ r → r ≤ s .counts .jobs → requestOf (endRun s r) r ≡ 0
   unfolding endRun
   end-request low high = at-put-same (s .request) r 0 low (omega (arith, F .sized .request, F .counts .jobs))
 
@@ -156,7 +156,7 @@ module _ (s : State) (F : Facts s) (r m o : ℕ) (A : RequestFacts s m r o) wher
   pub object-fits : o ≤ mostObjects
   object-fits = omega (arith, A .object, F .counts .objects)
 
-  rank-fits : (1 ≤ r) × (r ≤ limit)
+  rank-fits : (1 ≤ r) × (r ≤ mostJobs)
   rank-fits = let rank = active-rank s F r (A .active) in (rank .0, omega (arith, rank .1, F .counts .jobs))
 
   pub await-request : requestOf (await s m r o) r ≡ requestFor m o

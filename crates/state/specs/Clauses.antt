@@ -2,11 +2,11 @@
 -- Assumes nothing.
 use mathlib.Core.Path.{_≡_}
 use mathlib.Core.Bool.{true, _&&_}
-use Prim.Native.Nat.{ℕ, _≤_}
-use Rattle.basics.specs.Choice.{between, and-left, and-right, between-true}
-use Rattle.ranks.specs.Ranks.{limit}
+use Prim.Native.Nat.{_≤_}
+use Rattle.basics.specs.Choice.{between, and-left, and-right, between-true, inside-between}
+use Rattle.state.specs.declared.Counts.{Counts}
 use Rattle.state.specs.declared.State.{State}
-use Rattle.state.specs.State.{mostObjects, mostProcessors}
+use Rattle.state.specs.State.{mostJobs, mostObjects, mostProcessors}
 use Rattle.state.specs.WellFormed.{countsWithin, countsFit, processorsFit, declarationsFit, aboveIdle, locksFit, oneLockEach, writersAlone, waitsFit, marksFit, wellFormed}
 
 pub record Clauses (s : State) : Type 0 where
@@ -56,17 +56,27 @@ well-formed s c = simp (c .counts, c .processors, c .declarations, c .above, c .
 
 -- ---- counts within their limits
 
-pub record Within (p j o : ℕ) : Type 0 where
-  pub processors : (1 ≤ p) × (p ≤ mostProcessors)
-  pub jobs : (1 ≤ j) × (j ≤ limit)
-  pub objects : (1 ≤ o) × (o ≤ mostObjects)
+pub record Within (c : Counts) : Type 0 where
+  pub processors : (1 ≤ c .processors) × (c .processors ≤ mostProcessors)
+  pub jobs : (1 ≤ c .jobs) × (c .jobs ≤ mostJobs)
+  pub objects : (1 ≤ c .objects) × (c .objects ≤ mostObjects)
 
-pub counts-within : (p j o : ℕ) → countsWithin p j o ≡ true → Within p j o
-counts-within p j o e =
-    let pj = between 1 mostProcessors p && between 1 limit j in
-    let first-two = and-left pj (between 1 mostObjects o) e in
+pub counts-within : (c : Counts) → countsWithin c ≡ true → Within c
+counts-within c e =
+    let processors = between 1 mostProcessors (c .processors) in
+    let jobs = between 1 mostJobs (c .jobs) in
+    let objects = between 1 mostObjects (c .objects) in
+    let first-two = and-left (processors && jobs) objects e in
     record {
-      processors = between-true 1 mostProcessors p (and-left (between 1 mostProcessors p) (between 1 limit j) first-two);
-      jobs = between-true 1 limit j (and-right (between 1 mostProcessors p) (between 1 limit j) first-two);
-      objects = between-true 1 mostObjects o (and-right pj (between 1 mostObjects o) e);
+      processors = between-true 1 mostProcessors (c .processors) (and-left processors jobs first-two);
+      jobs = between-true 1 mostJobs (c .jobs) (and-right processors jobs first-two);
+      objects = between-true 1 mostObjects (c .objects) (and-right (processors && jobs) objects e);
     }
+
+pub within-counts : (c : Counts) → Within c → countsWithin c ≡ true
+within-counts c w =
+    simp (
+      inside-between 1 mostProcessors (c .processors) (w .processors .0) (w .processors .1),
+      inside-between 1 mostJobs (c .jobs) (w .jobs .0) (w .jobs .1),
+      inside-between 1 mostObjects (c .objects) (w .objects .0) (w .objects .1),
+    )

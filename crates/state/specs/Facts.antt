@@ -6,19 +6,19 @@ use mathlib.Core.Logic.{_≢_}
 use mathlib.Core.Bool.{true, false}
 use Prim.Native.Nat.{ℕ, _^_, _≤_, _<_}
 use lib.ListN.{length}
-use Rattle.ranks.specs.Ranks.{limit, member}
+use Rattle.ranks.specs.Ranks.{member}
 use Rattle.state.specs.declared.State.{State}
-use Rattle.state.specs.State.{mostObjects, read, write, isObject, processorOf, declared, holders, holdsAlready, hasUnlocked, requestOf, requestedMode, requestedObject}
+use Rattle.state.specs.State.{mostJobs, mostObjects, read, write, isObject, processorOf, declared, holders, holdsAlready, hasUnlocked, requestOf, requestedMode, requestedObject}
 use Rattle.state.specs.Clauses.{Within}
 
 -- the lengths that the arrays of the code's record always have
 pub record Sized (s : State) : Type 0 where
-  pub processor-of : length (s .«processor_of») ≡ limit
+  pub processor-of : length (s .«processor_of») ≡ mostJobs
   pub may-read : length (s .«may_read») ≡ mostObjects
   pub may-write : length (s .«may_write») ≡ mostObjects
   pub readers : length (s .readers) ≡ mostObjects
   pub writers : length (s .writers) ≡ mostObjects
-  pub request : length (s .request) ≡ limit
+  pub request : length (s .request) ≡ mostJobs
 
 -- rank r is in the set
 abbrev pub In : ℕ → ℕ → Type 0
@@ -30,7 +30,7 @@ Alone readers writers = (a b : ℕ) → In writers a → (In writers b → a ≡
 
 -- "locks only of active jobs with that right; at most one lock per job and object; a write lock shares its object with no other": of object o
 pub record LockFacts (s : State) (o : ℕ) : Type 0 where
-  pub jobs : (m : ℕ) → holders s m o < 2 ^ s .jobs
+  pub jobs : (m : ℕ) → holders s m o < 2 ^ s .counts .jobs
   pub active : (m r : ℕ) → In (holders s m o) r → In (s .active) r
   pub right : (m r : ℕ) → In (holders s m o) r → In (declared s m o) r
   pub once : (r : ℕ) → In (holders s read o) r → In (holders s write o) r → ⊥
@@ -39,7 +39,7 @@ pub record LockFacts (s : State) (o : ℕ) : Type 0 where
 -- "a waiting job is active, hasn't unlocked, and asks for a declared lock that 17 wouldn't refuse": of rank r and the lock on o in mode m
 pub record RequestFacts (s : State) (m r o : ℕ) : Type 0 where
   pub mode : (read ≤ m) × (m ≤ write)
-  pub object : (1 ≤ o) × (o ≤ s .objects)
+  pub object : (1 ≤ o) × (o ≤ s .counts .objects)
   pub active : In (s .active) r
   pub not-unlocked : hasUnlocked s r ≡ false
   pub right : In (declared s m o) r
@@ -48,14 +48,14 @@ pub record RequestFacts (s : State) (m r o : ℕ) : Type 0 where
 pub record Facts (s : State) : Type 0 where
   pub sized : Sized s
   -- "counts, processors and declarations within limits"
-  pub counts : Within (s .processors) (s .jobs) (s .objects)
-  pub processors : (r : ℕ) → 1 ≤ r → r ≤ s .jobs → processorOf s r < s .processors
+  pub counts : Within (s .counts)
+  pub processors : (r : ℕ) → 1 ≤ r → r ≤ s .counts .jobs → processorOf s r < s .counts .processors
   pub declared-objects : (m o : ℕ) → isObject s o ≡ false → declared s m o ≡ 0
   -- "ranks above the job count idle, with nothing declared"
-  pub declared-jobs : (m o : ℕ) → declared s m o < 2 ^ s .jobs
-  pub active-jobs : s .active < 2 ^ s .jobs
+  pub declared-jobs : (m o : ℕ) → declared s m o < 2 ^ s .counts .jobs
+  pub active-jobs : s .active < 2 ^ s .counts .jobs
   pub locks : (o : ℕ) → LockFacts s o
   pub requests : (r : ℕ) → requestOf s r ≢ 0 → RequestFacts s (requestedMode s r) r (requestedObject s r)
   -- "an idle job carries no mark of unlocking"
   pub marks : (r : ℕ) → In (s .unlocked) r → In (s .active) r
-  pub marks-jobs : s .unlocked < 2 ^ s .jobs
+  pub marks-jobs : s .unlocked < 2 ^ s .counts .jobs

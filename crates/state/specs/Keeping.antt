@@ -12,10 +12,10 @@ use lib.ListN.{length}
 use borrow.Author.Tests.{eq-eqb, ne-eqb}
 use Rattle.basics.specs.Choice.{if_then_else_, clash, neither}
 use Rattle.basics.specs.Arrays.{put, length-put, length-mapped}
-use Rattle.ranks.specs.Ranks.{limit, member, with, without}
+use Rattle.ranks.specs.Ranks.{member, with, without}
 use Rattle.ranks.specs.RankLaws.{member-with-same, member-with-other, member-without-same, member-without-other, with-lt, without-lt}
 use Rattle.state.specs.declared.State.{State}
-use Rattle.state.specs.State.{mostObjects, read, write, declared, holders, holds, isActive}
+use Rattle.state.specs.State.{mostJobs, mostObjects, read, write, declared, holders, holds, isActive}
 use Rattle.state.specs.State.{requestOf, requestFor, modeOfRequest, objectOfRequest, requestedMode, requestedObject, activate, await, grant, release, endRun}
 use Rattle.state.specs.Facts.{Sized, In, Alone, LockFacts, RequestFacts, Facts}
 use Rattle.state.specs.Modes.{either-mode}
@@ -43,7 +43,7 @@ with-grows set r x low i = elim (ℕ-discrete r x) [
 -- ---- the locks of t over the table of s
 
 module _ (s t : State) where
-  fewer-locks : (o : ℕ) → ((m : ℕ) → holders t m o < 2 ^ s .jobs)
+  fewer-locks : (o : ℕ) → ((m : ℕ) → holders t m o < 2 ^ s .counts .jobs)
       → ((m x : ℕ) → In (holders t m o) x → In (holders s m o) x × (In (s .active) x → In (t .active) x))
       → LockFacts s o → LockFacts (overTable s t) o
   fewer-locks o small fewer L = record {
@@ -71,8 +71,8 @@ module _ (s t : State) where
         (same-request (requestedMode s x) x (requestedObject s x) S (F .requests x (λ z. d (S .request ∙ z))))
 
     -- a change of job r alone
-    keep : (r : ℕ) → length (t .readers) ≡ mostObjects → length (t .writers) ≡ mostObjects → length (t .request) ≡ limit
-        → ((o : ℕ) → LockFacts (overTable s t) o) → t .active < 2 ^ s .jobs → t .unlocked < 2 ^ s .jobs
+    keep : (r : ℕ) → length (t .readers) ≡ mostObjects → length (t .writers) ≡ mostObjects → length (t .request) ≡ mostJobs
+        → ((o : ℕ) → LockFacts (overTable s t) o) → t .active < 2 ^ s .counts .jobs → t .unlocked < 2 ^ s .counts .jobs
         → ((x : ℕ) → In (t .unlocked) x → In (t .active) x)
         → (requestOf t r ≢ 0 → RequestFacts (overTable s t) (requestedMode t r) r (requestedObject t r))
         → ((x : ℕ) → r ≢ x → Same s t x) → Facts (overTable s t)
@@ -101,11 +101,11 @@ module _ (s t : State) where
 
 -- ---- the changes, one by one
 
-module _ (s : State) (F : Facts s) (r : ℕ) (low : 1 ≤ r) (high : r ≤ s .jobs) where
+module _ (s : State) (F : Facts s) (r : ℕ) (low : 1 ≤ r) (high : r ≤ s .counts .jobs) where
   abbrev Z : Sized s
   Z = F .sized
 
-  rank-fits : r ≤ limit
+  rank-fits : r ≤ mostJobs
   rank-fits = omega (arith, F .counts .jobs)
 
   pub activate-keeps : isActive s r ≡ false → Facts (activate s r)
@@ -113,7 +113,7 @@ module _ (s : State) (F : Facts s) (r : ℕ) (low : 1 ≤ r) (high : r ≤ s .jo
   activate-keeps idle =
       keep s (activate s r) F r (F .sized .readers) (F .sized .writers) (F .sized .request)
       (λ o. fewer-locks s (activate s r) o (F .locks o .jobs) (λ m x i. (i, grows x)) (F .locks o))
-      (with-lt (s .jobs) (s .active) r (F .active-jobs) high) (F .marks-jobs) (λ x i. grows x (F .marks x i))
+      (with-lt (s .counts .jobs) (s .active) r (F .active-jobs) high) (F .marks-jobs) (λ x i. grows x (F .marks x i))
       (λ d. absurd (clash (F .requests r d .active) idle)) (activate-same s r)
     where
       grows : (x : ℕ) → In (s .active) x → In (with (s .active) r) x
@@ -145,7 +145,7 @@ module _ (s : State) (F : Facts s) (r : ℕ) (low : 1 ≤ r) (high : r ≤ s .jo
 
   -- a set of holders of p in mode m that is a part of what it was
   abbrev Part : ℕ → ℕ → ℕ → Type 0
-  Part p m v = (v < 2 ^ s .jobs) × ((x : ℕ) → In v x → In (holders s m p) x)
+  Part p m v = (v < 2 ^ s .counts .jobs) × ((x : ℕ) → In v x → In (holders s m p) x)
 
   pub release-keeps : (o : ℕ) → 1 ≤ o → o ≤ mostObjects → isActive s r ≡ true → requestOf s r ≡ 0 → Facts (release s r o)
   unfolding release
@@ -153,7 +153,7 @@ module _ (s : State) (F : Facts s) (r : ℕ) (low : 1 ≤ r) (high : r ≤ s .jo
       keep s (release s r o) F r (length-put (s .readers) o (without (holders s read o) r) ∙ F .sized .readers)
       (length-put (s .writers) o (without (holders s write o) r) ∙ F .sized .writers) (F .sized .request)
       (λ p. fewer-locks s (release s r o) p (λ m. part p m .0) (λ m x i. (part p m .1 x i, λ j. j)) (F .locks p))
-      (F .active-jobs) (with-lt (s .jobs) (s .unlocked) r (F .marks-jobs) high)
+      (F .active-jobs) (with-lt (s .counts .jobs) (s .unlocked) r (F .marks-jobs) high)
       (λ x i. elim (with-in (s .unlocked) r x i) [ inl e ↦ subst (λ y. In (s .active) y) e active | inr j ↦ F .marks x j ])
       (λ d. absurd (d free)) (release-same s r Z o a b)
     where
@@ -161,7 +161,7 @@ module _ (s : State) (F : Facts s) (r : ℕ) (low : 1 ≤ r) (high : r ≤ s .jo
       part p m = elim (ℕ-discrete o p) [
         | yes e ↦ subst (λ q. Part q m (holders (release s r o) m q)) e
             (subst (Part o m) (sym (release-holders s r Z o a b m))
-            (without-lt (s .jobs) (holders s m o) r (F .locks o .jobs m), λ x i. without-in (holders s m o) r x i .0))
+            (without-lt (s .counts .jobs) (holders s m o) r (F .locks o .jobs m), λ x i. without-in (holders s m o) r x i .0))
         | no d ↦ subst (Part p m) (sym (release-others s r Z o a b m p d)) (F .locks p .jobs m, λ x i. i)
       ]
 
@@ -171,10 +171,10 @@ module _ (s : State) (F : Facts s) (r : ℕ) (low : 1 ≤ r) (high : r ≤ s .jo
       keep s (endRun s r) F r (length-mapped (λ v. without v r) mostObjects (s .readers) ∙ F .sized .readers)
       (length-mapped (λ v. without v r) mostObjects (s .writers) ∙ F .sized .writers) (length-put (s .request) r 0 ∙ F .sized .request)
       (λ o. fewer-locks s (endRun s r) o
-      (λ m. subst (λ v. v < 2 ^ s .jobs) (sym (end-holders s F r m o)) (without-lt (s .jobs) (holders s m o) r (F .locks o .jobs m)))
+      (λ m. subst (λ v. v < 2 ^ s .counts .jobs) (sym (end-holders s F r m o)) (without-lt (s .counts .jobs) (holders s m o) r (F .locks o .jobs m)))
       (λ m x i. (let z = without-in (holders s m o) r x (sym (ap (λ v. member v x) (end-holders s F r m o)) ∙ i) in (z .0, stays x (z .1))))
       (F .locks o))
-      (without-lt (s .jobs) (s .active) r (F .active-jobs)) (without-lt (s .jobs) (s .unlocked) r (F .marks-jobs))
+      (without-lt (s .counts .jobs) (s .active) r (F .active-jobs)) (without-lt (s .counts .jobs) (s .unlocked) r (F .marks-jobs))
       (λ x i. (let z = without-in (s .unlocked) r x i in stays x (z .1) (F .marks x (z .0))))
       (λ d. absurd (d (end-request s F r low high))) (end-same s F r)
     where
@@ -189,7 +189,7 @@ pub record NoConflict (s : State) (m r o : ℕ) : Type 0 where
   pub no-writer : m ≢ read → (x : ℕ) → r ≢ x → In (holders s write o) x → ⊥
   pub no-reader : m ≢ read → (x : ℕ) → r ≢ x → In (holders s read o) x → ⊥
 
-module _ (s : State) (F : Facts s) (r : ℕ) (low : 1 ≤ r) (high : r ≤ s .jobs) (m o : ℕ) (A : RequestFacts s m r o) where
+module _ (s : State) (F : Facts s) (r : ℕ) (low : 1 ≤ r) (high : r ≤ s .counts .jobs) (m o : ℕ) (A : RequestFacts s m r o) where
   -- r holds neither that lock nor the write lock
   pub unheld : (holds s m r o ≡ false) × (holds s write r o ≡ false)
   unheld = neither (holds s m r o) (holds s write r o) (ap not (A .new))
@@ -226,11 +226,11 @@ module _ (s : State) (F : Facts s) (r : ℕ) (low : 1 ≤ r) (high : r ≤ s .jo
       → P (holders (grant s m r o) write o) (declared s write o) → (n : ℕ) → P (holders (grant s m r o) n o) (declared s n o)
   granted-either P = either-mode (λ f. P (f (holders (grant s m r o) read o) (holders (grant s m r o) write o)) (f (declared s read o) (declared s write o)))
 
-  granted-jobs : (n : ℕ) → holders (grant s m r o) n o < 2 ^ s .jobs
+  granted-jobs : (n : ℕ) → holders (grant s m r o) n o < 2 ^ s .counts .jobs
   granted-jobs =
-      granted-either (λ v right. v < 2 ^ s .jobs)
-      (subst (λ v. v < 2 ^ s .jobs) (sym readers-after) (readers-after-lt m r (holders s read o) (s .jobs) (F .locks o .jobs read) high))
-      (subst (λ v. v < 2 ^ s .jobs) (sym writers-after) (writers-after-lt m r (holders s write o) (s .jobs) (F .locks o .jobs write) high))
+      granted-either (λ v right. v < 2 ^ s .counts .jobs)
+      (subst (λ v. v < 2 ^ s .counts .jobs) (sym readers-after) (readers-after-lt m r (holders s read o) (s .counts .jobs) (F .locks o .jobs read) high))
+      (subst (λ v. v < 2 ^ s .counts .jobs) (sym writers-after) (writers-after-lt m r (holders s write o) (s .counts .jobs) (F .locks o .jobs write) high))
 
   granted-right : (n : ℕ) → In (holders (grant s m r o) n o) r → In (declared s n o) r
   granted-right = elim (ℕ-discrete m read) [
@@ -277,8 +277,7 @@ module _ (s : State) (F : Facts s) (r : ℕ) (low : 1 ≤ r) (high : r ≤ s .jo
     granted-alone a b i = elim (ℕ-discrete m read) [
       | yes e ↦
           let i' = written e a i in
-          let before = F .locks o .alone a b i' in
-          (
+          let before = F .locks o .alone a b i' in (
             λ j. before .0 (written e b j),
             λ j. elim (reading e b j) [ inl k ↦ N .shares a (unwritten e a i') i' | inr k ↦ before .1 k ],
           )

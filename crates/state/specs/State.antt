@@ -7,10 +7,14 @@ use lib.Dec.{eqb}
 use lib.ListN.{replicate}
 use Rattle.basics.specs.Choice.{if_then_else_, between}
 use Rattle.basics.specs.Arrays.{at, put, mapped}
-use Rattle.ranks.specs.Ranks.{limit, member, with, without, union}
+use Rattle.ranks.specs.Ranks.{member, with, without, union}
+use Rattle.state.specs.declared.Counts.{Counts}
 use Rattle.state.specs.declared.State.{State}
 
--- how many objects and processors there can be; the number of ranks is `limit`
+-- 01: "A table has 1 to 64 jobs, 1 to 8 processors and 1 to 128 objects."
+abbrev pub mostJobs : ℕ
+mostJobs = 64
+
 abbrev pub mostObjects : ℕ
 mostObjects = 128
 
@@ -27,10 +31,10 @@ write = 2
 -- ---- the table
 
 abbrev pub isRank : State → ℕ → Bool
-isRank s r = between 1 (s .jobs) r
+isRank s r = between 1 (s .counts .jobs) r
 
 abbrev pub isObject : State → ℕ → Bool
-isObject s o = between 1 (s .objects) o
+isObject s o = between 1 (s .counts .objects) o
 
 abbrev pub processorOf : State → ℕ → ℕ
 processorOf s r = at (s .«processor_of») r
@@ -103,11 +107,12 @@ requestedObject s r = objectOfRequest (requestOf s r)
 
 -- ---- a state from its parts
 
-abbrev pub stateOf : ℕ → ℕ → ℕ → List ℕ → List ℕ → List ℕ → ℕ → ℕ → List ℕ → List ℕ → List ℕ → State
-stateOf p j o ps mr mw a u rs ws q = record {
-  processors = p;
-  jobs = j;
-  objects = o;
+abbrev pub countsOf : (processors jobs objects : ℕ) → Counts
+countsOf p j o = record { processors = p; jobs = j; objects = o }
+
+abbrev pub stateOf : Counts → List ℕ → List ℕ → List ℕ → ℕ → ℕ → List ℕ → List ℕ → List ℕ → State
+stateOf c ps mr mw a u rs ws q = record {
+  counts = c;
   «processor_of» = ps;
   «may_read» = mr;
   «may_write» = mw;
@@ -122,16 +127,16 @@ abbrev pub zeros : ℕ → List ℕ
 zeros n = replicate n 0
 
 -- 01, Table bytes: "A fresh state has all 128 objects unlocked and every job idle."
-abbrev pub freshState : ℕ → ℕ → ℕ → List ℕ → List ℕ → List ℕ → State
-freshState p j o ps mr mw = stateOf p j o ps mr mw 0 0 (zeros mostObjects) (zeros mostObjects) (zeros limit)
+abbrev pub freshState : Counts → List ℕ → List ℕ → List ℕ → State
+freshState c ps mr mw = stateOf c ps mr mw 0 0 (zeros mostObjects) (zeros mostObjects) (zeros mostJobs)
 
 -- 01, Refusals: a state "whose numbers are all 0"
 abbrev pub zeroState : State
-zeroState = freshState 0 0 0 (zeros limit) (zeros mostObjects) (zeros mostObjects)
+zeroState = freshState (countsOf 0 0 0) (zeros mostJobs) (zeros mostObjects) (zeros mostObjects)
 
 -- the same table with these active jobs, marks of unlocking, readers, writers and requests
 abbrev pub withLocks : State → ℕ → ℕ → List ℕ → List ℕ → List ℕ → State
-withLocks s a u rs ws q = stateOf (s .processors) (s .jobs) (s .objects) (s .«processor_of») (s .«may_read») (s .«may_write») a u rs ws q
+withLocks s a u rs ws q = stateOf (s .counts) (s .«processor_of») (s .«may_read») (s .«may_write») a u rs ws q
 
 -- ---- changes
 

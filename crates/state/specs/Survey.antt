@@ -3,17 +3,17 @@
 use Prim.Native.Nat.{ℕ, suc}
 use mathlib.Core.Bool.{Bool, not, _&&_, _||_}
 use mathlib.Core.List.{List}
-use lib.Dec.{eqb, leb}
+use lib.Dec.{leb}
 use Rattle.basics.specs.Choice.{if_then_else_}
 use Rattle.basics.specs.Arrays.{at}
-use Rattle.ranks.specs.Ranks.{member, union, minus, butFirst, unions}
+use Rattle.ranks.specs.Ranks.{isEmpty, member, union, minus, butFirst, unions}
 use Rattle.state.specs.State.{mostObjects, ofMode}
 use Rattle.state.specs.declared.locks.Survey.{Survey}
 
 -- empty if and only if the locks have their rights, a write lock is alone, and nothing is declared outside the table
 unfoldable pub objectWrong : Bool → ℕ → ℕ → ℕ → ℕ → ℕ
 objectWrong outside mayRead mayWrite readers writers =
-    union (union (union (union (minus readers mayRead) (minus writers mayWrite)) (butFirst writers)) (if not (eqb writers 0) then readers else 0))
+    union (union (union (minus readers mayRead) (minus writers mayWrite)) (union (butFirst writers) (if not (isEmpty writers) then readers else 0)))
     (if outside then union mayRead mayWrite else 0)
 
 -- object o is outside a table of so many objects

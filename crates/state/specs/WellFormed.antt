@@ -5,26 +5,27 @@ use mathlib.Core.Bool.{Bool, not, _&&_, _||_}
 use lib.Dec.{eqb, ltb}
 use Rattle.basics.specs.Choice.{between}
 use Rattle.basics.specs.Loops.{every}
-use Rattle.ranks.specs.Ranks.{limit, subset, disjoint, atMostOne}
+use Rattle.ranks.specs.Ranks.{subset, disjoint, atMostOne}
+use Rattle.state.specs.declared.Counts.{Counts}
 use Rattle.state.specs.declared.State.{State}
-use Rattle.state.specs.State.{mostObjects, mostProcessors, read, write, isObject, processorOf, declared, declaredAny, mayLock}
+use Rattle.state.specs.State.{mostJobs, mostObjects, mostProcessors, read, write, isObject, processorOf, declared, declaredAny, mayLock}
 use Rattle.state.specs.State.{holders, holdersAny, holdsAlready, isActive, hasUnlocked, isWaiting, requestedMode, requestedObject}
 
 -- "A table has 1 to 64 jobs, 1 to 8 processors and 1 to 128 objects."
-abbrev pub countsWithin : ℕ → ℕ → ℕ → Bool
-countsWithin p j o = between 1 mostProcessors p && between 1 limit j && between 1 mostObjects o
+abbrev pub countsWithin : Counts → Bool
+countsWithin c = between 1 mostProcessors (c .processors) && between 1 mostJobs (c .jobs) && between 1 mostObjects (c .objects)
 
 -- "counts .. within limits"
 abbrev pub countsFit : State → Bool
-countsFit s = countsWithin (s .processors) (s .jobs) (s .objects)
+countsFit s = countsWithin (s .counts)
 
 -- the processor of rank r is one of the table's
 abbrev pub processorFits : State → ℕ → Bool
-processorFits s r = ltb (processorOf s r) (s .processors)
+processorFits s r = ltb (processorOf s r) (s .counts .processors)
 
 -- "processors .. within limits"
 unfoldable pub processorsFit : State → Bool
-processorsFit s = every (s .jobs) (processorFits s)
+processorsFit s = every (s .counts .jobs) (processorFits s)
 
 -- nothing is declared for an object that the table does not have
 abbrev pub declarationFits : State → ℕ → Bool
@@ -36,7 +37,7 @@ declarationsFit s = every mostObjects (declarationFits s)
 
 -- the set has no rank above the job count
 abbrev pub ofJobs : State → ℕ → Bool
-ofJobs s set = ltb set (2 ^ s .jobs)
+ofJobs s set = ltb set (2 ^ s .counts .jobs)
 
 abbrev pub declaredOfJobs : State → ℕ → Bool
 declaredOfJobs s o = ofJobs s (declaredAny s o)
@@ -85,7 +86,7 @@ waitFits s r = not (isWaiting s r) || mayAwait s (requestedMode s r) r (requeste
 
 -- "a waiting job is active, hasn't unlocked, and asks for a declared lock that 17 wouldn't refuse"
 unfoldable pub waitsFit : State → Bool
-waitsFit s = every limit (waitFits s)
+waitsFit s = every mostJobs (waitFits s)
 
 -- "an idle job carries no mark of unlocking"
 unfoldable pub marksFit : State → Bool

@@ -15,18 +15,18 @@ use borrow.Author.Tests.{eqb-true, eq-eqb, ne-eqb, ltb-true, lt-ltb, not-true}
 use Rattle.basics.specs.Choice.{between, clash, and-true, and-left, and-right, or-right, between-true, inside-between}
 use Rattle.basics.specs.Loops.{every, every-at, every-true}
 use Rattle.basics.specs.Arrays.{at, at-out}
-use Rattle.ranks.specs.Ranks.{limit, member, first, union, subset, atMostOne}
+use Rattle.ranks.specs.Ranks.{member, first, union, subset, atMostOne}
 use Rattle.ranks.specs.RankLaws.{member-pos, member-le, member-empty, first-some, first-member, subset-member, member-subset, disjoint-member}
 use Rattle.ranks.specs.RankLaws.{member-disjoint, one-member, member-one}
 use Rattle.ranks.specs.UnionLaws.{union-left, union-right, union-either, union-lt, subset-le, empty-union}
 use Rattle.state.specs.declared.State.{State}
-use Rattle.state.specs.State.{mostObjects, mostProcessors, read, write, isObject, processorOf}
+use Rattle.state.specs.State.{mostJobs, mostObjects, read, write, isObject, processorOf}
 use Rattle.state.specs.State.{declared, declaredAny, mayLock, holders, holdersAny}
 use Rattle.state.specs.State.{holds, holdsAlready, isActive, hasUnlocked, requestOf, requestedMode, requestedObject}
 use Rattle.state.specs.WellFormed.{processorFits, processorsFit, declarationFits, declarationsFit, ofJobs, declaredOfJobs, aboveIdle}
 use Rattle.state.specs.WellFormed.{heldByActive, heldByRight, locksFit, lockedOnce, oneLockEach, alone, writtenAlone, writersAlone}
 use Rattle.state.specs.WellFormed.{mayAwait, waitFits, waitsFit, marksFit, wellFormed}
-use Rattle.state.specs.Clauses.{Clauses, clauses, well-formed, counts-within}
+use Rattle.state.specs.Clauses.{Clauses, clauses, well-formed, counts-within, within-counts}
 use Rattle.state.specs.Modes.{either-mode}
 use Rattle.state.specs.Facts.{Sized, In, Alone, LockFacts, RequestFacts, Facts}
 
@@ -72,22 +72,22 @@ module _ (s : State) (F : Facts s) where
   above-test : aboveIdle s ≡ true
   unfolding aboveIdle
   above-test =
-      and-true _ _ (lt-ltb (s .active) (2 ^ s .jobs) (F .active-jobs))
-      (every-true mostObjects (declaredOfJobs s) (λ o a b. lt-ltb (declaredAny s o) (2 ^ s .jobs)
-      (union-lt (s .jobs) (declared s read o) (declared s write o) (F .declared-jobs read o) (F .declared-jobs write o))))
+      and-true _ _ (lt-ltb (s .active) (2 ^ s .counts .jobs) (F .active-jobs))
+      (every-true mostObjects (declaredOfJobs s) (λ o a b. lt-ltb (declaredAny s o) (2 ^ s .counts .jobs)
+      (union-lt (s .counts .jobs) (declared s read o) (declared s write o) (F .declared-jobs read o) (F .declared-jobs write o))))
 
   active-test : (o : ℕ) → heldByActive s o ≡ true
   active-test o =
       let L = F .locks o in
-      member-subset (s .jobs) (holdersAny s o) (s .active)
-      (union-lt (s .jobs) (holders s read o) (holders s write o) (L .jobs read) (L .jobs write))
+      member-subset (s .counts .jobs) (holdersAny s o) (s .active)
+      (union-lt (s .counts .jobs) (holders s read o) (holders s write o) (L .jobs read) (L .jobs write))
       (λ r l i. ⊎-elim (L .active read r) (L .active write r) (union-either (holders s read o) (holders s write o) r i))
 
   right-test : (o : ℕ) → heldByRight s o ≡ true
   right-test o =
       let L = F .locks o in
       let one : (m : ℕ) → subset (holders s m o) (declared s m o) ≡ true =
-      λ m. member-subset (s .jobs) (holders s m o) (declared s m o) (L .jobs m) (λ r l. L .right m r) in
+      λ m. member-subset (s .counts .jobs) (holders s m o) (declared s m o) (L .jobs m) (λ r l. L .right m r) in
       and-true _ _ (one read) (one write)
 
   locks-test : locksFit s ≡ true
@@ -99,17 +99,17 @@ module _ (s : State) (F : Facts s) where
   once-test : (o : ℕ) → lockedOnce s o ≡ true
   once-test o =
       let L = F .locks o in
-      member-disjoint (s .jobs) (holders s read o) (holders s write o) (L .jobs read) (λ r l. L .once r)
+      member-disjoint (s .counts .jobs) (holders s read o) (holders s write o) (L .jobs read) (λ r l. L .once r)
 
   alone-test : (o : ℕ) → writtenAlone s o ≡ true
   alone-test o =
       let L = F .locks o in
-      alone-true (s .jobs) (holders s read o) (holders s write o) (L .jobs read) (L .jobs write) (L .alone)
+      alone-true (s .counts .jobs) (holders s read o) (holders s write o) (L .jobs read) (L .jobs write) (L .alone)
 
   request-test : (m r o : ℕ) → RequestFacts s m r o → mayAwait s m r o ≡ true
   request-test m r o A =
       let known = inside-between read write m (A .mode .0) (A .mode .1) in
-      let object = inside-between 1 (s .objects) o (A .object .0) (A .object .1) in
+      let object = inside-between 1 (s .counts .objects) o (A .object .0) (A .object .1) in
       let asks : between read write m && isObject s o && isActive s r && not (hasUnlocked s r) && mayLock s m r o ≡ true =
       simp (known, object, A .active, A .not-unlocked, A .right) in
       and-true _ _ asks (ap not (A .new))
@@ -123,21 +123,16 @@ module _ (s : State) (F : Facts s) where
   facts-clauses : Clauses s
   unfolding processorsFit declarationsFit oneLockEach writersAlone waitsFit marksFit
   facts-clauses =
-      let c = F .counts in
       record {
-        counts = simp (
-          inside-between 1 mostProcessors (s .processors) (c .processors .0) (c .processors .1),
-          inside-between 1 limit (s .jobs) (c .jobs .0) (c .jobs .1),
-          inside-between 1 mostObjects (s .objects) (c .objects .0) (c .objects .1),
-        );
-        processors = every-true (s .jobs) (processorFits s) (λ r a b. lt-ltb (processorOf s r) (s .processors) (F .processors r a b));
+        counts = within-counts (s .counts) (F .counts);
+        processors = every-true (s .counts .jobs) (processorFits s) (λ r a b. lt-ltb (processorOf s r) (s .counts .processors) (F .processors r a b));
         declarations = every-true mostObjects (declarationFits s) (λ o a b. declaration-test o);
         above = above-test;
         locks = locks-test;
         once = every-true mostObjects (lockedOnce s) (λ o a b. once-test o);
         alone = every-true mostObjects (writtenAlone s) (λ o a b. alone-test o);
-        waits = every-true limit (waitFits s) (λ r a b. wait-test r);
-        marks = member-subset (s .jobs) (s .unlocked) (s .active) (F .marks-jobs) (λ r l. F .marks r);
+        waits = every-true mostJobs (waitFits s) (λ r a b. wait-test r);
+        marks = member-subset (s .counts .jobs) (s .unlocked) (s .active) (F .marks-jobs) (λ r l. F .marks r);
       }
 
   pub facts-well-formed : wellFormed s ≡ true
@@ -180,21 +175,21 @@ module _ (s : State) (z : Sized s) (w : wellFormed s ≡ true) where
       fits true q t = absurd (clash refl q)
       fits false q t = sym (empty-union (declared s read o) (declared s write o)) ∙ t
 
-  active-fact : s .active < 2 ^ s .jobs
+  active-fact : s .active < 2 ^ s .counts .jobs
   unfolding aboveIdle
-  active-fact = ltb-true (s .active) (2 ^ s .jobs) (and-left _ _ (C .above))
+  active-fact = ltb-true (s .active) (2 ^ s .counts .jobs) (and-left _ _ (C .above))
 
-  declared-fact : (m o : ℕ) → declared s m o < 2 ^ s .jobs
+  declared-fact : (m o : ℕ) → declared s m o < 2 ^ s .counts .jobs
   unfolding aboveIdle
   declared-fact m o = elim (within mostObjects o) [
     | yes i ↦
         let reading = declared s read o in
         let writing = declared s write o in
         let all = every-at mostObjects (declaredOfJobs s) o (and-right (ofJobs s (s .active)) _ (C .above)) (i .0) (i .1) in
-        let both = ltb-true (union reading writing) (2 ^ s .jobs) all in
-        declared-part (λ v. v < 2 ^ s .jobs) o (omega (arith, both, or-add-and reading writing, and-le-r reading writing))
+        let both = ltb-true (union reading writing) (2 ^ s .counts .jobs) all in
+        declared-part (λ v. v < 2 ^ s .counts .jobs) o (omega (arith, both, or-add-and reading writing, and-le-r reading writing))
         (omega (arith, both, or-add-and reading writing, and-le-l reading writing)) m
-    | no d ↦ omega (arith, past-declared m o d, pow-pos (s .jobs))
+    | no d ↦ omega (arith, past-declared m o d, pow-pos (s .counts .jobs))
   ]
 
   -- the locks on an object of the arrays
@@ -222,7 +217,7 @@ module _ (s : State) (z : Sized s) (w : wellFormed s ≡ true) where
 
   outside-locks : (o : ℕ) → ¬ ((1 ≤ o) × (o ≤ mostObjects)) → LockFacts s o
   outside-locks o d = record {
-    jobs = λ m. omega (arith, past-holders m o d, pow-pos (s .jobs));
+    jobs = λ m. omega (arith, past-holders m o d, pow-pos (s .counts .jobs));
     active = λ m r i. absurd (none-in (holders s m o) r (past-holders m o d) i);
     right = λ m r i. absurd (none-in (holders s m o) r (past-holders m o d) i);
     once = λ r i. absurd (none-in (holders s read o) r (past-holders read o d) i);
@@ -242,7 +237,7 @@ module _ (s : State) (z : Sized s) (w : wellFormed s ≡ true) where
       let e2 = and-left t2 (isActive s r) e3 in
       record {
         mode = between-true read write m (and-left t1 (isObject s o) e2);
-        object = between-true 1 (s .objects) o (and-right t1 (isObject s o) e2);
+        object = between-true 1 (s .counts .objects) o (and-right t1 (isObject s o) e2);
         active = and-right t2 (isActive s r) e3;
         not-unlocked = not-true (hasUnlocked s r) (and-right t3 (not (hasUnlocked s r)) e4);
         right = and-right t4 (mayLock s m r o) e5;
@@ -251,18 +246,18 @@ module _ (s : State) (z : Sized s) (w : wellFormed s ≡ true) where
 
   waiting-fact : (r : ℕ) → requestOf s r ≢ 0 → RequestFacts s (requestedMode s r) r (requestedObject s r)
   unfolding waitsFit
-  waiting-fact r d = elim (within limit r) [
+  waiting-fact r d = elim (within mostJobs r) [
     | yes i ↦ request-fact (requestedMode s r) r (requestedObject s r)
-        (simp (ne-eqb (requestOf s r) 0 d) at (every-at limit (waitFits s) r (C .waits) (i .0) (i .1)))
-    | no n ↦ absurd (d (at-out (s .request) limit r (z .request) n))
+        (simp (ne-eqb (requestOf s r) 0 d) at (every-at mostJobs (waitFits s) r (C .waits) (i .0) (i .1)))
+    | no n ↦ absurd (d (at-out (s .request) mostJobs r (z .request) n))
   ]
 
   pub facts : Facts s
   unfolding processorsFit marksFit
   facts = record {
     sized = z;
-    counts = counts-within (s .processors) (s .jobs) (s .objects) (C .counts);
-    processors = λ r a b. ltb-true (processorOf s r) (s .processors) (every-at (s .jobs) (processorFits s) r (C .processors) a b);
+    counts = counts-within (s .counts) (C .counts);
+    processors = λ r a b. ltb-true (processorOf s r) (s .counts .processors) (every-at (s .counts .jobs) (processorFits s) r (C .processors) a b);
     declared-objects = objects-fact;
     declared-jobs = declared-fact;
     active-jobs = active-fact;
@@ -275,18 +270,18 @@ module _ (s : State) (z : Sized s) (w : wellFormed s ≡ true) where
 -- ---- locks and waiting jobs are of the table
 
 module _ (s : State) (F : Facts s) where
-  pub active-rank : (r : ℕ) → In (s .active) r → (1 ≤ r) × (r ≤ s .jobs)
-  active-rank r i = (member-pos (s .active) r i, member-le (s .jobs) (s .active) r (F .active-jobs) i)
+  pub active-rank : (r : ℕ) → In (s .active) r → (1 ≤ r) × (r ≤ s .counts .jobs)
+  active-rank r i = (member-pos (s .active) r i, member-le (s .counts .jobs) (s .active) r (F .active-jobs) i)
 
-  pub held-rank : (m r o : ℕ) → In (holders s m o) r → (1 ≤ r) × (r ≤ s .jobs)
+  pub held-rank : (m r o : ℕ) → In (holders s m o) r → (1 ≤ r) × (r ≤ s .counts .jobs)
   held-rank m r o i = active-rank r (F .locks o .active m r i)
 
-  pub held-object : (m r o : ℕ) → In (holders s m o) r → (1 ≤ o) × (o ≤ s .objects)
+  pub held-object : (m r o : ℕ) → In (holders s m o) r → (1 ≤ o) × (o ≤ s .counts .objects)
   held-object m r o i = go (isObject s o) refl
     where
-      go : (b : Bool) → isObject s o ≡ b → (1 ≤ o) × (o ≤ s .objects)
-      go true e = between-true 1 (s .objects) o e
+      go : (b : Bool) → isObject s o ≡ b → (1 ≤ o) × (o ≤ s .counts .objects)
+      go true e = between-true 1 (s .counts .objects) o e
       go false e = absurd (none-in (declared s m o) r (F .declared-objects m o e) (F .locks o .right m r i))
 
-  pub waiting-rank : (r : ℕ) → requestOf s r ≢ 0 → (1 ≤ r) × (r ≤ s .jobs)
+  pub waiting-rank : (r : ℕ) → requestOf s r ≢ 0 → (1 ≤ r) × (r ≤ s .counts .jobs)
   waiting-rank r d = active-rank r (F .requests r d .active)

@@ -3,13 +3,14 @@ ghost use mathlib.Core.Path.{_≡_};
 ghost use mathlib.Core.List.{[]};
 ghost use Prim.Native.Nat.{_≤_};
 ghost use Rattle.basics.specs.Choice.{between};
-ghost use Rattle.state.specs.State.{ofMode, stateOf};
+ghost use Rattle.state.specs.State.{mostJobs, mostObjects, ofMode, stateOf};
 ghost use Rattle.state.specs.WellFormed.{countsWithin, processorsFit, mayAwait, waitsFit};
 ghost use Rattle.state.specs.State.{modeOfRequest, objectOfRequest};
 ghost use Rattle.state.specs.Survey.{mayAsk};
+use crate::Counts;
 use crate::JobProcessors;
 use crate::JobRequests;
-use crate::ObjectSets;
+use crate::Sets;
 use ranks::RankSet;
 
 // Whether the number is one of low to high.
@@ -20,18 +21,19 @@ pub fn within(low: u8, high: u8, n: u8) -> bool
 }
 
 // Whether the numbers of processors, jobs and objects are within their limits.
-pub fn counts_within(processors: u8, jobs: u8, objects: u8) -> bool
-    ensures { λ r. ⌜ r ≡ countsWithin processors jobs objects ⌝ }
+pub fn counts_within(counts: Counts) -> bool
+    ensures { λ r. ⌜ r ≡ countsWithin counts ⌝ }
 {
-    within(1, 8, processors) & within(1, 64, jobs) & within(1, 128, objects)
+    within(1, 8, counts.processors) & within(1, 64, counts.jobs) & within(1, 128, counts.objects)
 }
 
 // Whether each job's processor is one of the table's.
-pub fn processors_fit(processors: u8, jobs: u8, processor_of: &JobProcessors) -> bool
-    requires { ⌜ jobs ≤ 64 ⌝ }
-    ensures { λ r. ⌜ r ≡ processorsFit (stateOf processors jobs 0 (now («processor_of» .entry)) [] [] 0 0 [] [] []) ⌝ }
+pub fn processors_fit(counts: Counts, processor_of: &JobProcessors) -> bool
+    requires { ⌜ counts .jobs ≤ mostJobs ⌝ }
+    ensures { λ r. ⌜ r ≡ processorsFit (stateOf counts (now («processor_of» .entry)) [] [] 0 0 [] [] []) ⌝ }
 {
-    let count = jobs as usize;
+    let processors = counts.processors;
+    let count = counts.jobs as usize;
     let mut fit = true;
     let mut i: usize = 0;
     while i < count {
@@ -57,7 +59,7 @@ fn may_ask(
     readers: RankSet,
     writers: RankSet,
 ) -> bool
-    requires { ⌜ (1 ≤ rank) × (rank ≤ 64) ⌝ }
+    requires { ⌜ (1 ≤ rank) × (rank ≤ mostJobs) ⌝ }
     ensures { λ r. ⌜ r ≡ mayAsk mode rank «may_read» «may_write» readers writers ⌝ }
 {
     ranks::contains(of_mode(mode, may_read, may_write), rank)
@@ -66,23 +68,23 @@ fn may_ask(
 
 // Whether a rank may be waiting for the request: a lock of a mode on an object of the table that it may ask for, in a run without an unlock.
 fn may_await<'a>(
-    objects: u8,
-    may_read: &'a ObjectSets,
-    may_write: &'a ObjectSets,
+    counts: Counts,
+    may_read: Sets<'a>,
+    may_write: Sets<'a>,
     active: RankSet,
     unlocked: RankSet,
-    readers: &'a ObjectSets,
-    writers: &'a ObjectSets,
+    readers: Sets<'a>,
+    writers: Sets<'a>,
     request: u16,
     rank: u8,
 ) -> bool
-    requires { ⌜ (objects ≤ 128) × (1 ≤ rank) × (rank ≤ 64) ⌝ }
-    ensures { λ r. ⌜ r ≡ mayAwait (stateOf 0 0 objects [] (now («may_read» .entry)) (now («may_write» .entry)) active unlocked (now (readers .entry)) (now (writers .entry)) [])
+    requires { ⌜ (counts .objects ≤ mostObjects) × (1 ≤ rank) × (rank ≤ mostJobs) ⌝ }
+    ensures { λ r. ⌜ r ≡ mayAwait (stateOf counts [] (now («may_read» .entry)) (now («may_write» .entry)) active unlocked (now (readers .entry)) (now (writers .entry)) [])
         (modeOfRequest request) rank (objectOfRequest request) ⌝ }
 {
     let mode = (request / 256) as u8;
     let object = (request % 256) as u8;
-    if !(within(1, 2, mode) & within(1, objects, object)) {
+    if !(within(1, 2, mode) & within(1, counts.objects, object)) {
         return false;
     }
     let i = (object - 1) as usize;
@@ -100,17 +102,17 @@ fn may_await<'a>(
 
 // Whether each waiting job may be waiting for its request.
 pub fn waits_fit<'a>(
-    objects: u8,
-    may_read: &'a ObjectSets,
-    may_write: &'a ObjectSets,
+    counts: Counts,
+    may_read: Sets<'a>,
+    may_write: Sets<'a>,
     active: RankSet,
     unlocked: RankSet,
-    readers: &'a ObjectSets,
-    writers: &'a ObjectSets,
+    readers: Sets<'a>,
+    writers: Sets<'a>,
     request: &'a JobRequests,
 ) -> bool
-    requires { ⌜ objects ≤ 128 ⌝ }
-    ensures { λ r. ⌜ r ≡ waitsFit (stateOf 0 0 objects [] (now («may_read» .entry)) (now («may_write» .entry)) active unlocked (now (readers .entry)) (now (writers .entry)) (now (request .entry))) ⌝ }
+    requires { ⌜ counts .objects ≤ mostObjects ⌝ }
+    ensures { λ r. ⌜ r ≡ waitsFit (stateOf counts [] (now («may_read» .entry)) (now («may_write» .entry)) active unlocked (now (readers .entry)) (now (writers .entry)) (now (request .entry))) ⌝ }
 {
     let mut rank: u8 = 0;
     while rank < 64 {
@@ -118,7 +120,7 @@ pub fn waits_fit<'a>(
         rank += 1;
         if asked != 0 {
             if !may_await(
-                objects,
+                counts,
                 may_read,
                 may_write,
                 active,

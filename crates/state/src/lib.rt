@@ -15,6 +15,13 @@ pub use jobs::within;
 use locks::survey_objects;
 use ranks::RankSet;
 
+// How many processors, jobs and objects a table has.
+pub struct Counts {
+    pub processors: u8,
+    pub jobs: u8,
+    pub objects: u8,
+}
+
 // A processor, a request, for each rank; a set of ranks for each object.
 pub type JobProcessors = [u8; 64];
 
@@ -22,11 +29,14 @@ pub type JobRequests = [u16; 64];
 
 pub type ObjectSets = [RankSet; 128];
 
+// A set of ranks for each object, lent to be read, and lent to be changed.
+pub type Sets<'a> = &'a ObjectSets;
+
+pub type SetsMut<'a> = &'a mut ObjectSets;
+
 // The table and the locks. A rank's element stands at rank - 1, an object's at object - 1.
 pub struct State {
-    pub processors: u8,
-    pub jobs: u8,
-    pub objects: u8,
+    pub counts: Counts,
     pub processor_of: JobProcessors,
     pub may_read: ObjectSets,
     pub may_write: ObjectSets,
@@ -39,34 +49,32 @@ pub struct State {
 
 // Whether the state with these parts is well formed.
 pub fn fits<'a>(
-    processors: u8,
-    jobs: u8,
-    objects: u8,
+    counts: Counts,
     processor_of: &'a JobProcessors,
-    may_read: &'a ObjectSets,
-    may_write: &'a ObjectSets,
+    may_read: Sets<'a>,
+    may_write: Sets<'a>,
     active: RankSet,
     unlocked: RankSet,
-    readers: &'a ObjectSets,
-    writers: &'a ObjectSets,
+    readers: Sets<'a>,
+    writers: Sets<'a>,
     request: &'a JobRequests,
 ) -> bool
-    ensures { λ r. ⌜ r ≡ wellFormed (stateOf processors jobs objects (now («processor_of» .entry)) (now («may_read» .entry)) (now («may_write» .entry))
+    ensures { λ r. ⌜ r ≡ wellFormed (stateOf counts (now («processor_of» .entry)) (now («may_read» .entry)) (now («may_write» .entry))
         active unlocked (now (readers .entry)) (now (writers .entry)) (now (request .entry))) ⌝ }
 {
-    if !counts_within(processors, jobs, objects) {
+    if !counts_within(counts) {
         return false;
     }
-    let all = ranks::up_to(jobs);
-    let seen = survey_objects(may_read, may_write, readers, writers, objects);
-    (seen.wrong == 0)
+    let all = ranks::up_to(counts.jobs);
+    let seen = survey_objects(may_read, may_write, readers, writers, counts.objects);
+    ranks::is_empty(seen.wrong)
         & ranks::is_subset(seen.declared, all)
         & ranks::is_subset(seen.held, active)
         & ranks::is_subset(active, all)
         & ranks::is_subset(unlocked, active)
-        & processors_fit(processors, jobs, processor_of)
+        & processors_fit(counts, processor_of)
         & waits_fit(
-            objects,
+            counts,
             may_read,
             may_write,
             active,
@@ -81,6 +89,7 @@ pub fn fits<'a>(
 pub fn is_well_formed(state: State) -> bool
     ensures { λ r. ⌜ (r ≡ wellFormed state) × Sized state ⌝ }
 {
+    let counts = state.counts;
     let processor_of = state.processor_of;
     let may_read = state.may_read;
     let may_write = state.may_write;
@@ -88,9 +97,7 @@ pub fn is_well_formed(state: State) -> bool
     let writers = state.writers;
     let request = state.request;
     fits(
-        state.processors,
-        state.jobs,
-        state.objects,
+        counts,
         &processor_of,
         &may_read,
         &may_write,

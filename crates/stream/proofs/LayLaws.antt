@@ -5,20 +5,21 @@ use mathlib.Core.Path.{_≡_, refl, sym, subst}
 use mathlib.Core.List.{List, []}
 use native.Mathlib.Omega.{arith}
 use borrow.Author.Tests.{eq-eqb, ne-eqb}
+use Rattle.state.specs.declared.Counts.{Counts}
 use Rattle.decimals.specs.Laid.{Laid}
 use Rattle.lines.specs.Lines.{headerLine, endLine, shortLine, refusedLine}
 use Rattle.stream.specs.declared.Bench.{Bench}
 use Rattle.stream.specs.declared.Advanced.{Advanced}
 use Rattle.stream.specs.Parts.{Advance, openingLine, unchanged, lastLineOf, Advances}
 
-module _ (refusal jobs processors objects : ℕ) where
-  pub opening-accepted : refusal ≡ 0 → headerLine jobs processors objects ≡ openingLine refusal jobs processors objects
+module _ (refusal : ℕ) (counts : Counts) where
+  pub opening-accepted : refusal ≡ 0 → headerLine counts ≡ openingLine refusal counts
   opening-accepted e = simp (eq-eqb refusal 0 e)
 
-  pub opening-cut : refusal ≡ 1 → [] ≡ openingLine refusal jobs processors objects
+  pub opening-cut : refusal ≡ 1 → [] ≡ openingLine refusal counts
   opening-cut e = simp (ne-eqb refusal 0 (λ q. omega arith), eq-eqb refusal 1 e)
 
-  pub opening-refused : (refusal ≡ 0 → ⊥) → (refusal ≡ 1 → ⊥) → refusedLine refusal ≡ openingLine refusal jobs processors objects
+  pub opening-refused : (refusal ≡ 0 → ⊥) → (refusal ≡ 1 → ⊥) → refusedLine refusal ≡ openingLine refusal counts
   opening-refused d f = simp (ne-eqb refusal 0 d, ne-eqb refusal 1 f)
 
 module _ (r : Bench) (left : ℕ) where

@@ -158,7 +158,7 @@ module _ (bytes more : List ℕ) where
   open-accepted e =
       let t : TableRead = readTable bytes in
       let same : readTable (bytes ++ more) ≡ readTable bytes = table-decided bytes more (λ q. omega arith) in
-      let header : List ℕ = headerLine (t .state .jobs) (t .state .processors) (t .state .objects) in
+      let header : List ℕ = headerLine (t .state .counts) in
       let rest : List ℕ = drop (t .used) bytes ++ more in
       let yes′ : eqb (t .refusal) 0 ≡ true = eq-eqb (t .refusal) 0 e in
       let line : opening t .lines ≡ header = simp (yes′) in

@@ -9,6 +9,7 @@ use mathlib.Core.List.{List, [], _∷_, _++_}
 use lib.Dec.{eqb}
 use lib.ListN.{length, take, drop}
 use Rattle.basics.specs.Choice.{if_then_else_}
+use Rattle.state.specs.declared.Counts.{Counts}
 use Rattle.table.specs.declared.TableRead.{TableRead}
 use Rattle.table.specs.Reading.{refusedRead, readTable}
 use Rattle.lines.specs.Lines.{headerLine, endLine, shortLine, refusedLine}
@@ -35,16 +36,16 @@ unread = opened (refusedRead 1)
 
 -- the line that the table decides: "Line 1 gives mark, version, jobs, processors, objects"; "A refused table gives the single line `X` and
 -- its number"; none as long as the bytes end early (1), since more may come
-abbrev pub openingLine : (refusal jobs processors objects : ℕ) → List ℕ
-openingLine refusal jobs processors objects =
-    if eqb refusal 0 then headerLine jobs processors objects else
+abbrev pub openingLine : ℕ → Counts → List ℕ
+openingLine refusal counts =
+    if eqb refusal 0 then headerLine counts else
     if eqb refusal 1 then [] else
     refusedLine refusal
 
 -- a step at the table
 abbrev pub opening : TableRead → Advance
 opening t = record {
-  lines = openingLine (t .refusal) (t .state .jobs) (t .state .processors) (t .state .objects);
+  lines = openingLine (t .refusal) (t .state .counts);
   used = t .used;
   bench = opened t;
 }

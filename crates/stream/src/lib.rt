@@ -12,6 +12,7 @@ use lines::lay_header;
 use lines::lay_refused;
 use lines::lay_short;
 use record::lay_events;
+use state::Counts;
 use state::State;
 
 // How far the input is read. The refusal is 1 as long as the table may still be incomplete, 0 behind a table that was accepted, its
@@ -44,12 +45,12 @@ fn most_lines(room: usize, events: u64) -> usize
 }
 
 // Lays the line that the table decides, none as long as it may be incomplete. Answers its length.
-fn lay_opening(lines: &mut [u8], refusal: u8, jobs: u8, processors: u8, objects: u8) -> usize
+fn lay_opening(lines: &mut [u8], refusal: u8, counts: Counts) -> usize
     requires { ⌜ 45 ≤ length (now lines) ⌝ }
-    ensures { λ r. ⌜ Laid (now (lines .entry)) (now (lines .exit)) 0 r 45 (openingLine refusal jobs processors objects) ⌝ }
+    ensures { λ r. ⌜ Laid (now (lines .entry)) (now (lines .exit)) 0 r 45 (openingLine refusal counts) ⌝ }
 {
     if refusal == 0 {
-        return lay_header(lines, jobs, processors, objects);
+        return lay_header(lines, counts);
     }
     if refusal == 1 {
         return 0;
@@ -64,13 +65,7 @@ fn open_table(bytes: &[u8], lines: &mut [u8]) -> Advanced
 {
     let read = table::read_table(bytes);
     let state = read.state;
-    let laid = lay_opening(
-        lines,
-        read.refusal,
-        state.jobs,
-        state.processors,
-        state.objects,
-    );
+    let laid = lay_opening(lines, read.refusal, state.counts);
     let bench = Bench {
         refusal: read.refusal,
         events: 0,
@@ -89,6 +84,7 @@ fn answer(bench: Bench, count: usize, bytes: &[u8], lines: &mut [u8]) -> Advance
     ensures { λ r. ⌜ Advances r (answering count bench (now (bytes .entry))) 45 (now (lines .entry)) (now (lines .exit)) ⌝ }
 {
     let state = bench.state;
+    let counts = state.counts;
     let processor_of = state.processor_of;
     let may_read = state.may_read;
     let may_write = state.may_write;
@@ -99,9 +95,7 @@ fn answer(bench: Bench, count: usize, bytes: &[u8], lines: &mut [u8]) -> Advance
     let mut request = state.request;
     let used = 3 * count;
     let laid = lay_events(
-        state.processors,
-        state.jobs,
-        state.objects,
+        counts,
         &processor_of,
         &may_read,
         &may_write,
@@ -115,9 +109,7 @@ fn answer(bench: Bench, count: usize, bytes: &[u8], lines: &mut [u8]) -> Advance
         &bytes[..used],
     );
     let next = State {
-        processors: state.processors,
-        jobs: state.jobs,
-        objects: state.objects,
+        counts,
         processor_of,
         may_read,
         may_write,
@@ -143,15 +135,18 @@ fn answer(bench: Bench, count: usize, bytes: &[u8], lines: &mut [u8]) -> Advance
 pub fn unread() -> Bench
     ensures { λ r. ⌜ r ≡ unread ⌝ }
 {
-    let state = State {
+    let counts = Counts {
         processors: 0,
         jobs: 0,
         objects: 0,
+    };
+    let state = State {
+        counts,
         processor_of: [0; 64],
         may_read: [0; 128],
         may_write: [0; 128],
-        active: 0,
-        unlocked: 0,
+        active: ranks::EMPTY,
+        unlocked: ranks::EMPTY,
         readers: [0; 128],
         writers: [0; 128],
         request: [0; 64],

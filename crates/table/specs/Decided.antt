@@ -8,13 +8,13 @@ use native.Mathlib.Decide.{ℕ-discrete}
 use native.Mathlib.Omega.{arith}
 use lib.ListN.{length, take, drop, length-drop}
 use lib.Seq.{take-append-le, drop-append-le}
-use Rattle.ranks.specs.Ranks.{limit}
+use Rattle.state.specs.declared.Counts.{Counts}
 use Rattle.state.specs.declared.State.{State}
-use Rattle.state.specs.State.{read, write, zeros, freshState}
-use Rattle.table_bytes.specs.Bytes.{processorsIn, jobsIn, objectsIn, entryRank, entryObject, entryMode, entryCount, entriesStart, tableLength}
+use Rattle.state.specs.State.{mostJobs, read, write, zeros, freshState}
+use Rattle.table_bytes.specs.Bytes.{jobsIn, countsIn, entryRank, entryObject, entryMode, entryCount, entriesStart, tableLength}
 use Rattle.table_bytes.specs.Refusals.{tableRefusal}
 use Rattle.table_bytes.specs.AcceptedTable.{accepted-table}
-use Rattle.table_bytes.specs.Decided.{same, same-jobs, same-count, same-length, same-rank, same-object, same-mode, refusal-decided}
+use Rattle.table_bytes.specs.Decided.{same-jobs, same-counts, same-count, same-length, same-rank, same-object, same-mode, refusal-decided}
 use Rattle.table.specs.Reading.{processorsOf, withRight, declaredIn, tableState, refusedRead, readTable}
 use Rattle.table.specs.Fresh.{read-refusal, read-accepted, read-refused}
 
@@ -30,17 +30,16 @@ module _ (b more : List ℕ) where
     same-processors-of : processorsOf (b ++ more) ≡ processorsOf b
     unfolding processorsOf
     same-processors-of =
-        ap (λ (j : ℕ). take j (drop 8 (b ++ more)) ++ zeros (limit - j)) (same-jobs b more h)
-        ∙ ap (λ (l : List ℕ). l ++ zeros (limit - jobsIn b))
+        ap (λ (j : ℕ). take j (drop 8 (b ++ more)) ++ zeros (mostJobs - j)) (same-jobs b more h)
+        ∙ ap (λ (l : List ℕ). l ++ zeros (mostJobs - jobsIn b))
         (ap (take (jobsIn b)) (drop-append-le 8 b more h) ∙ take-append-le (jobsIn b) (drop 8 b) more (omega (arith, length-drop 8 b)))
 
     same-state : tableState (b ++ more) ≡ tableState b
     unfolding tableState
     same-state =
-        ap₂ (λ (x y : ℕ). freshState x y (objectsIn (b ++ more)) (processorsOf (b ++ more)) (declaredIn read (b ++ more) (entryCount (b ++ more))) (declaredIn write (b ++ more) (entryCount (b ++ more)))) (same b more 5 (omega arith)) (same-jobs b more h)
-        ∙ ap₂ (λ (x : ℕ) (y : List ℕ). freshState (processorsIn b) (jobsIn b) x y (declaredIn read (b ++ more) (entryCount (b ++ more))) (declaredIn write (b ++ more) (entryCount (b ++ more)))) (same b more 7 (omega arith)) same-processors-of
-        ∙ ap (λ (n : ℕ). freshState (processorsIn b) (jobsIn b) (objectsIn b) (processorsOf b) (declaredIn read (b ++ more) n) (declaredIn write (b ++ more) n)) (same-count b more h s)
-        ∙ ap₂ (λ (x y : List ℕ). freshState (processorsIn b) (jobsIn b) (objectsIn b) (processorsOf b) x y) (same-declared read (entryCount b) (omega arith)) (same-declared write (entryCount b) (omega arith))
+        ap₂ (λ (x : Counts) (y : List ℕ). freshState x y (declaredIn read (b ++ more) (entryCount (b ++ more))) (declaredIn write (b ++ more) (entryCount (b ++ more)))) (same-counts b more h) same-processors-of
+        ∙ ap (λ (n : ℕ). freshState (countsIn b) (processorsOf b) (declaredIn read (b ++ more) n) (declaredIn write (b ++ more) n)) (same-count b more h s)
+        ∙ ap₂ (λ (x y : List ℕ). freshState (countsIn b) (processorsOf b) x y) (same-declared read (entryCount b) (omega arith)) (same-declared write (entryCount b) (omega arith))
 
   -- bytes that are not cut
   pub table-decided : (readTable b .refusal ≡ 1 → ⊥) → readTable (b ++ more) ≡ readTable b

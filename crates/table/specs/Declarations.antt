@@ -1,5 +1,5 @@
--- What accepted table bytes declare stays within the table: 128 sets, with no rank above the job count, and empty for an object
--- that the table does not have; and the processor of each rank is one of the table's.
+-- What accepted table bytes declare stays within the table: `mostObjects` sets, with no rank above the job count, and empty for an
+-- object that the table does not have; and the processor of each rank is one of the table's.
 -- Assumes nothing.
 use Prim.Native.Nat.{ℕ, zero, suc, _-_, _^_, _≤_, _<_}
 use mathlib.Core.Path.{_≡_, sym, subst, _∙_}
@@ -12,9 +12,9 @@ use lib.Pow.{pow-pos}
 use lib.Seq.{getD-take, getD-drop}
 use Rattle.basics.specs.Choice.{if_then_else_}
 use Rattle.basics.specs.Arrays.{at, put, at-put-same, at-put-other, length-put, at-zeros}
-use Rattle.ranks.specs.Ranks.{limit, with}
+use Rattle.ranks.specs.Ranks.{with}
 use Rattle.ranks.specs.RankLaws.{with-lt}
-use Rattle.state.specs.State.{mostObjects, zeros}
+use Rattle.state.specs.State.{mostJobs, mostObjects, zeros}
 use Rattle.table_bytes.specs.Bytes.{jobsIn, objectsIn, processorIn, entryCount, entryRank, entryObject, entryMode}
 use Rattle.table.specs.Reading.{processorsOf, givesRight, withRight, declaredIn}
 use Rattle.table_bytes.specs.AcceptedTable.{AcceptedTable, EntryFits}
@@ -72,4 +72,4 @@ module _ (b : List ℕ) (a : AcceptedTable b) where
   processor-read k l =
       let own = take (jobsIn b) (drop 8 b) in
       let inside : k < length own = omega (arith, length-take (jobsIn b) (drop 8 b), length-drop 8 b, a .start-within) in
-      List·getD-append own (zeros (limit - jobsIn b)) 0 k inside ∙ getD-take (jobsIn b) (drop 8 b) k 0 l ∙ getD-drop 8 b k 0
+      List·getD-append own (zeros (mostJobs - jobsIn b)) 0 k inside ∙ getD-take (jobsIn b) (drop 8 b) k 0 l ∙ getD-drop 8 b k 0

@@ -14,18 +14,18 @@ use borrow.Author.Tests.{lt-ltb, eq-eqb, ne-eqb}
 use Rattle.basics.specs.Choice.{if_then_else_, and-true, or-right, inside-between}
 use Rattle.basics.specs.Loops.{every, every-true}
 use Rattle.basics.specs.Arrays.{at, at-zeros}
-use Rattle.ranks.specs.Ranks.{limit, member, union}
+use Rattle.ranks.specs.Ranks.{member, union}
 use Rattle.ranks.specs.RankLaws.{member-empty}
 use Rattle.ranks.specs.UnionLaws.{union-lt, empty-at-most-one}
 use Rattle.state.specs.declared.State.{State}
-use Rattle.state.specs.State.{read, write, mostObjects, mostProcessors, zeroState, isObject, declaredAny, holds, isActive}
+use Rattle.state.specs.State.{mostJobs, read, write, mostObjects, zeroState, isObject, declaredAny, holds, isActive}
 use Rattle.state.specs.WellFormed.{countsFit, processorFits, processorsFit, declarationFits, declarationsFit, declaredOfJobs, aboveIdle}
 use Rattle.state.specs.WellFormed.{heldByActive, heldByRight, locksFit, lockedOnce, oneLockEach, writtenAlone, writersAlone, waitFits, waitsFit, marksFit, wellFormed}
 use Rattle.table.specs.declared.TableRead.{TableRead}
 use Rattle.table_bytes.specs.Bytes.{processorsIn, jobsIn, objectsIn, entryCount, tableLength}
 use Rattle.table_bytes.specs.Refusals.{tableRefusal}
 use Rattle.table.specs.Reading.{declaredIn, tableState, refusedRead, readTable}
-use Rattle.table_bytes.specs.AcceptedTable.{AcceptedTable, accepted-table}
+use Rattle.table_bytes.specs.AcceptedTable.{AcceptedTable, accepted-table, accepted-counts}
 use Rattle.table.specs.Declarations.{SetsFit, declared-fits, processor-read}
 
 pub record Fresh (s : State) : Type 0 where
@@ -44,9 +44,7 @@ module _ (b : List ℕ) (a : AcceptedTable b) where
 
   counts-fit : countsFit (tableState b) ≡ true
   unfolding tableState
-  counts-fit =
-      and-true _ _ (and-true _ _ (inside-between 1 mostProcessors (processorsIn b) (a .processors-low) (a .processors-high))
-      (inside-between 1 limit (jobsIn b) (a .jobs-low) (a .jobs-high))) (inside-between 1 mostObjects (objectsIn b) (a .objects-low) (a .objects-high))
+  counts-fit = accepted-counts b a
 
   processors-fit : processorsFit (tableState b) ≡ true
   unfolding processorsFit tableState
@@ -95,7 +93,7 @@ module _ (b : List ℕ) (a : AcceptedTable b) where
 
   waits-fit : waitsFit (tableState b) ≡ true
   unfolding waitsFit tableState
-  waits-fit = every-true limit (waitFits (tableState b)) (λ r l h. simp (at-zeros limit r))
+  waits-fit = every-true mostJobs (waitFits (tableState b)) (λ r l h. simp (at-zeros mostJobs r))
 
   marks-fit : marksFit (tableState b) ≡ true
   unfolding marksFit tableState

@@ -7,16 +7,16 @@ use lib.ListN.{take, drop}
 use lib.Dec.{eqb}
 use Rattle.basics.specs.Choice.{if_then_else_}
 use Rattle.basics.specs.Arrays.{at, put}
-use Rattle.ranks.specs.Ranks.{limit, with}
+use Rattle.ranks.specs.Ranks.{with}
 use Rattle.state.specs.declared.State.{State}
-use Rattle.state.specs.State.{read, write, mostObjects, zeros, freshState, zeroState}
+use Rattle.state.specs.State.{mostJobs, read, write, mostObjects, zeros, freshState, zeroState}
 use Rattle.table.specs.declared.TableRead.{TableRead}
-use Rattle.table_bytes.specs.Bytes.{processorsIn, jobsIn, objectsIn, entryCount, tableLength, entryRank, entryObject, entryMode}
+use Rattle.table_bytes.specs.Bytes.{jobsIn, countsIn, entryCount, tableLength, entryRank, entryObject, entryMode}
 use Rattle.table_bytes.specs.Refusals.{tableRefusal}
 
 -- the processor of each rank, 0 above the job count
 unfoldable pub processorsOf : List ℕ → List ℕ
-processorsOf b = take (jobsIn b) (drop 8 b) ++ zeros (limit - jobsIn b)
+processorsOf b = take (jobsIn b) (drop 8 b) ++ zeros (mostJobs - jobsIn b)
 
 -- "mode (1 read, 2 write, 3 both)": an entry's mode gives the right to lock in mode m
 abbrev pub givesRight : ℕ → ℕ → Bool
@@ -34,7 +34,7 @@ declaredIn m b (suc k) = withRight m (entryRank b k) (entryObject b k) (entryMod
 -- the fresh state of accepted table bytes
 unfoldable pub tableState : List ℕ → State
 tableState b =
-    freshState (processorsIn b) (jobsIn b) (objectsIn b) (processorsOf b)
+    freshState (countsIn b) (processorsOf b)
     (declaredIn read b (entryCount b)) (declaredIn write b (entryCount b))
 
 -- "The table reader, handed no state, returns one whose numbers are all 0 and says 0 bytes used."

@@ -8,10 +8,14 @@ mod job;
 mod rights;
 
 pub use job::job_entries;
-use ranks::RankSet;
+use ranks::EMPTY;
 use rights::declared;
 use rights::processors_of;
+use state::Counts;
+use state::JobProcessors;
+use state::ObjectSets;
 use state::State;
+use table_bytes::counts_in;
 use table_bytes::table_length;
 use table_bytes::table_refusal;
 
@@ -24,24 +28,20 @@ pub struct TableRead {
 
 // The state of the table in which every job is idle and every object unlocked.
 fn fresh_state(
-    processors: u8,
-    jobs: u8,
-    objects: u8,
-    processor_of: [u8; 64],
-    may_read: [RankSet; 128],
-    may_write: [RankSet; 128],
+    counts: Counts,
+    processor_of: JobProcessors,
+    may_read: ObjectSets,
+    may_write: ObjectSets,
 ) -> State
-    ensures { λ r. ⌜ r ≡ freshState processors jobs objects «processor_of» «may_read» «may_write» ⌝ }
+    ensures { λ r. ⌜ r ≡ freshState counts «processor_of» «may_read» «may_write» ⌝ }
 {
     State {
-        processors,
-        jobs,
-        objects,
+        counts,
         processor_of,
         may_read,
         may_write,
-        active: 0,
-        unlocked: 0,
+        active: EMPTY,
+        unlocked: EMPTY,
         readers: [0; 128],
         writers: [0; 128],
         request: [0; 64],
@@ -52,7 +52,12 @@ fn fresh_state(
 fn zero_state() -> State
     ensures { λ r. ⌜ r ≡ zeroState ⌝ }
 {
-    fresh_state(0, 0, 0, [0; 64], [0; 128], [0; 128])
+    let counts = Counts {
+        processors: 0,
+        jobs: 0,
+        objects: 0,
+    };
+    fresh_state(counts, [0; 64], [0; 128], [0; 128])
 }
 
 // The fresh state of accepted table bytes.
@@ -64,14 +69,7 @@ fn table_state(bytes: &[u8]) -> State
     let rights = declared(bytes);
     let may_read = rights.may_read;
     let may_write = rights.may_write;
-    fresh_state(
-        bytes[5],
-        bytes[6],
-        bytes[7],
-        processors,
-        may_read,
-        may_write,
-    )
+    fresh_state(counts_in(bytes), processors, may_read, may_write)
 }
 
 // The fresh state that the table bytes declare and how many bytes the table has. Bytes behind the table are not looked at.

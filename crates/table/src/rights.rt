@@ -1,14 +1,14 @@
 // Processors and declared rights out of accepted table bytes.
 ghost use mathlib.Core.Path.{_≡_};
 ghost use Prim.Native.Nat.{_≤_};
-ghost use Rattle.ranks.specs.Ranks.{limit};
-ghost use Rattle.state.specs.State.{read, write, mostObjects};
+ghost use Rattle.state.specs.State.{mostJobs, read, write, mostObjects};
 ghost use Rattle.table_bytes.specs.Bytes.{entryCount};
 ghost use Rattle.table_bytes.specs.Refusals.{tableRefusal};
 ghost use Rattle.table.specs.Reading.{processorsOf, givesRight, withRight, declaredIn};
 use ranks::with;
 use state::JobProcessors;
 use state::ObjectSets;
+use state::SetsMut;
 use table_bytes::entry_count;
 use table_bytes::entry_start;
 use table_bytes::wide;
@@ -42,8 +42,8 @@ fn gives_right(mode: u8, right: u8) -> bool
 }
 
 // Puts the rank into the object's set if the mode gives the right.
-fn add_right(sets: &mut ObjectSets, right: u8, rank: u8, object: u8, mode: u8)
-    requires { ⌜ ((1 ≤ rank) × (rank ≤ limit)) × ((1 ≤ object) × (object ≤ mostObjects)) ⌝ }
+fn add_right(sets: SetsMut, right: u8, rank: u8, object: u8, mode: u8)
+    requires { ⌜ ((1 ≤ rank) × (rank ≤ mostJobs)) × ((1 ≤ object) × (object ≤ mostObjects)) ⌝ }
     ensures { λ _. ⌜ now (sets .exit) ≡ withRight right rank object mode (now (sets .entry)) ⌝ }
 {
     if gives_right(mode, right) {

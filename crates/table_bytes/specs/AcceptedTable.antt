@@ -11,10 +11,10 @@ use lib.Dec.{eqb, ltb}
 use borrow.Author.Tests.{ltb-true, ltb-false, lt-ltb, le-ltb, eqb-true, eq-eqb, not-false}
 use Rattle.basics.specs.Choice.{between, and-true, and-left, and-right, between-true, inside-between, if-zero, or-else-zero}
 use Rattle.basics.specs.Loops.{first-nonzero-none, all-zero-first}
-use Rattle.ranks.specs.Ranks.{limit}
-use Rattle.state.specs.State.{mostObjects, mostProcessors}
+use Rattle.state.specs.State.{mostJobs, mostObjects, mostProcessors}
 use Rattle.state.specs.WellFormed.{countsWithin}
-use Rattle.table_bytes.specs.Bytes.{byte, versionIn, processorsIn, jobsIn, objectsIn, processorIn, entryCount, entriesStart, tableLength}
+use Rattle.state.specs.Clauses.{counts-within, within-counts}
+use Rattle.table_bytes.specs.Bytes.{byte, versionIn, processorsIn, jobsIn, objectsIn, countsIn, processorIn, entryCount, entriesStart, tableLength}
 use Rattle.table_bytes.specs.Bytes.{entryRank, entryObject, entryMode, order, orderBefore}
 use Rattle.table_bytes.specs.Refusals.{hasMark, headerRefusal, mostEntries, lengthRefusal, processorByteRefusalOf, processorByteRefusal}
 use Rattle.table_bytes.specs.Refusals.{entryRefusal, entryRefusalOf, entriesRefusal, tableRefusal}
@@ -38,7 +38,7 @@ pub record AcceptedTable (b : List ℕ) : Type 0 where
   pub processors-low : 1 ≤ processorsIn b
   pub processors-high : processorsIn b ≤ mostProcessors
   pub jobs-low : 1 ≤ jobsIn b
-  pub jobs-high : jobsIn b ≤ limit
+  pub jobs-high : jobsIn b ≤ mostJobs
   pub objects-low : 1 ≤ objectsIn b
   pub objects-high : objectsIn b ≤ mostObjects
   pub start-within : entriesStart b ≤ length b
@@ -57,22 +57,20 @@ three-true p q r x y z = and-true (p && q) r (and-true p q x y) z
 -- ---- the steps one by one, for the code that takes them one by one
 
 module _ (b : List ℕ) (ok : headerRefusal b ≡ 0) where
-  header : (ltb (length b) 8 ≡ false) × (hasMark b ≡ true) × (eqb (versionIn b) 1 ≡ true) × (countsWithin (processorsIn b) (jobsIn b) (objectsIn b) ≡ true)
+  header : (ltb (length b) 8 ≡ false) × (hasMark b ≡ true) × (eqb (versionIn b) 1 ≡ true) × (countsWithin (countsIn b) ≡ true)
   unfolding headerRefusal
   header =
       let short = if-zero 0 (ltb (length b) 8) _ ok in
       let mark = if-zero 1 (not (hasMark b)) _ (short .1) in
       let version = if-zero 2 (not (eqb (versionIn b) 1)) _ (mark .1) in
-      let counts = if-zero 3 (not (countsWithin (processorsIn b) (jobsIn b) (objectsIn b))) _ (version .1) in
+      let counts = if-zero 3 (not (countsWithin (countsIn b))) _ (version .1) in
       (short .0, not-false _ (mark .0), not-false _ (version .0), not-false _ (counts .0))
 
   pub header-long : 8 ≤ length b
   header-long = ltb-false (length b) 8 (header .0)
 
-  pub header-jobs : jobsIn b ≤ limit
-  header-jobs =
-      let counts : countsWithin (processorsIn b) (jobsIn b) (objectsIn b) ≡ true = header .3 in
-      between-true 1 limit (jobsIn b) (three (between 1 mostProcessors (processorsIn b)) (between 1 limit (jobsIn b)) (between 1 mostObjects (objectsIn b)) counts .1) .1
+  pub header-jobs : jobsIn b ≤ mostJobs
+  header-jobs = counts-within (countsIn b) (header .3) .jobs .1
 
 module _ (b : List ℕ) (ok : lengthRefusal b ≡ 0) where
   lengths : (ltb (length b) (entriesStart b) ≡ false) × (ltb mostEntries (entryCount b) ≡ false) × (ltb (length b) (tableLength b) ≡ false)
@@ -139,22 +137,19 @@ module _ (b : List ℕ) (ok : tableRefusal b ≡ 0) where
   accepted-table =
       let h = header b (steps .0) in
       let m = three _ _ _ (h .1) in
-      let n = three _ _ _ (h .3) in
-      let p = between-true 1 mostProcessors (processorsIn b) (n .0) in
-      let j = between-true 1 limit (jobsIn b) (n .1) in
-      let o = between-true 1 mostObjects (objectsIn b) (n .2) in
+      let n = counts-within (countsIn b) (h .3) in
       record {
         long = header-long b (steps .0);
         mark-first = eqb-true (byte b 0) 74 (m .0);
         mark-second = eqb-true (byte b 1) 79 (m .1);
         mark-third = eqb-true (byte b 2) 66 (m .2);
         version = eqb-true (versionIn b) 1 (h .2);
-        processors-low = p .0;
-        processors-high = p .1;
-        jobs-low = j .0;
-        jobs-high = j .1;
-        objects-low = o .0;
-        objects-high = o .1;
+        processors-low = n .processors .0;
+        processors-high = n .processors .1;
+        jobs-low = n .jobs .0;
+        jobs-high = n .jobs .1;
+        objects-low = n .objects .0;
+        objects-high = n .objects .1;
         start-within = start-in b (steps .1);
         count-high = count-in b (steps .1);
         table-within = table-in b (steps .1);
@@ -165,15 +160,20 @@ module _ (b : List ℕ) (ok : tableRefusal b ≡ 0) where
 -- ---- and back
 
 module _ (b : List ℕ) (a : AcceptedTable b) where
+  pub accepted-counts : countsWithin (countsIn b) ≡ true
+  accepted-counts =
+      within-counts (countsIn b) (record {
+        processors = (a .processors-low, a .processors-high);
+        jobs = (a .jobs-low, a .jobs-high);
+        objects = (a .objects-low, a .objects-high);
+      })
+
   header-none : headerRefusal b ≡ 0
   unfolding headerRefusal
   header-none =
       let mark : hasMark b ≡ true =
       three-true _ _ _ (eq-eqb (byte b 0) 74 (a .mark-first)) (eq-eqb (byte b 1) 79 (a .mark-second)) (eq-eqb (byte b 2) 66 (a .mark-third)) in
-      let counts : countsWithin (processorsIn b) (jobsIn b) (objectsIn b) ≡ true =
-      three-true _ _ _ (inside-between 1 mostProcessors (processorsIn b) (a .processors-low) (a .processors-high))
-      (inside-between 1 limit (jobsIn b) (a .jobs-low) (a .jobs-high)) (inside-between 1 mostObjects (objectsIn b) (a .objects-low) (a .objects-high)) in
-      simp (le-ltb (length b) 8 (a .long), mark, eq-eqb (versionIn b) 1 (a .version), counts)
+      simp (le-ltb (length b) 8 (a .long), mark, eq-eqb (versionIn b) 1 (a .version), accepted-counts)
 
   length-none : lengthRefusal b ≡ 0
   unfolding lengthRefusal

@@ -4,6 +4,8 @@
 use Prim.Native.Nat.{ℕ, zero, suc, _+_, _*_}
 use mathlib.Core.List.{List}
 use lib.ListN.{getD}
+use Rattle.state.specs.declared.Counts.{Counts}
+use Rattle.state.specs.State.{countsOf}
 
 -- the byte at index i, counted from 0; 0 behind the last
 abbrev pub byte : List ℕ → ℕ → ℕ
@@ -24,6 +26,10 @@ jobsIn b = byte b 6
 
 abbrev pub objectsIn : List ℕ → ℕ
 objectsIn b = byte b 7
+
+-- the counts in the header
+abbrev pub countsIn : List ℕ → Counts
+countsIn b = countsOf (processorsIn b) (jobsIn b) (objectsIn b)
 
 -- the processor byte of rank k + 1
 abbrev pub processorIn : List ℕ → ℕ → ℕ

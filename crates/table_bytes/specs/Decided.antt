@@ -12,9 +12,9 @@ use lib.Dec.{eqb, ltb}
 use borrow.Author.Tests.{le-ltb, lt-ltb}
 use Rattle.basics.specs.Choice.{between, if-not, or-else-not}
 use Rattle.basics.specs.Loops.{firstNonzero, first-nonzero-same, first-nonzero-not}
-use Rattle.ranks.specs.Ranks.{limit}
+use Rattle.state.specs.State.{mostJobs, countsOf}
 use Rattle.state.specs.WellFormed.{countsWithin}
-use Rattle.table_bytes.specs.Bytes.{byte, word, versionIn, processorsIn, jobsIn, objectsIn, entryCount, entriesStart, tableLength}
+use Rattle.table_bytes.specs.Bytes.{byte, word, versionIn, processorsIn, jobsIn, objectsIn, countsIn, entryCount, entriesStart, tableLength}
 use Rattle.table_bytes.specs.Bytes.{entryStart, entryRank, entryObject, entryMode, order, orderBefore, processorIn}
 use Rattle.table_bytes.specs.Refusals.{hasMark, headerRefusal, mostEntries, lengthRefusal, processorByteRefusalOf, processorByteRefusal}
 use Rattle.table_bytes.specs.Refusals.{entryRefusal, entryRefusalOf, entriesRefusal, tableRefusal}
@@ -47,7 +47,7 @@ whole b s c h =
 -- ---- some bytes, and more behind them
 
 module _ (b more : List ℕ) where
-  pub same : (i : ℕ) → i < length b → byte (b ++ more) i ≡ byte b i
+  same : (i : ℕ) → i < length b → byte (b ++ more) i ≡ byte b i
   same i h = List·getD-append b more 0 i h
 
   longer : length b ≤ length (b ++ more)
@@ -72,6 +72,12 @@ module _ (b more : List ℕ) where
 
   pub same-jobs : 8 ≤ length b → jobsIn (b ++ more) ≡ jobsIn b
   same-jobs h = same 6 (omega arith)
+
+  pub same-counts : 8 ≤ length b → countsIn (b ++ more) ≡ countsIn b
+  same-counts h =
+      let p = same 5 (omega arith) in
+      let o = same 7 (omega arith) in
+      λ i. countsOf (p i) (same-jobs h i) (o i)
 
   same-start : 8 ≤ length b → entriesStart (b ++ more) ≡ entriesStart b
   same-start h = ap (λ (j : ℕ). 10 + j) (same-jobs h)
@@ -164,9 +170,9 @@ module _ (b more : List ℕ) where
 
 -- ---- bytes that are refused as cut are fewer than the longest table has
 
--- with 64 processor bytes and 8,192 entries
+-- with the most jobs, and so processor bytes, and the most entries
 abbrev pub longestTable : ℕ
-longestTable = 10 + limit + 3 * mostEntries
+longestTable = 10 + mostJobs + 3 * mostEntries
 
 module _ (b : List ℕ) where
   header-not-one : 8 ≤ length b → headerRefusal b ≡ 1 → ⊥
@@ -175,7 +181,7 @@ module _ (b : List ℕ) where
       let rest = simp (le-ltb (length b) 8 h) at e in
       if-not 1 2 (not (hasMark b)) _ (λ q. omega arith)
       (if-not 1 3 (not (eqb (versionIn b) 1)) _ (λ q. omega arith)
-      (if-not 1 4 (not (countsWithin (processorsIn b) (jobsIn b) (objectsIn b))) 0 (λ q. omega arith) (λ q. omega arith))) rest
+      (if-not 1 4 (not (countsWithin (countsIn b))) 0 (λ q. omega arith) (λ q. omega arith))) rest
 
   processors-not-one : processorByteRefusal b ≡ 1 → ⊥
   unfolding processorByteRefusal

@@ -10,7 +10,7 @@ use lib.Dec.{eqb, ltb}
 use Rattle.basics.specs.Choice.{_if_else_, _orElse_, between}
 use Rattle.basics.specs.Loops.{firstNonzero}
 use Rattle.state.specs.WellFormed.{countsWithin}
-use Rattle.table_bytes.specs.Bytes.{byte, versionIn, processorsIn, jobsIn, objectsIn, processorIn, entryCount, entriesStart, tableLength}
+use Rattle.table_bytes.specs.Bytes.{byte, versionIn, processorsIn, jobsIn, objectsIn, countsIn, processorIn, entryCount, entriesStart, tableLength}
 use Rattle.table_bytes.specs.Bytes.{entryRank, entryObject, entryMode, order, orderBefore}
 
 -- the mark `JOB`
@@ -23,7 +23,7 @@ headerRefusal b =
     1 if ltb (length b) 8 else
     2 if not (hasMark b) else
     3 if not (eqb (versionIn b) 1) else
-    4 if not (countsWithin (processorsIn b) (jobsIn b) (objectsIn b)) else
+    4 if not (countsWithin (countsIn b)) else
     0
 
 -- "the entry count (.., at most 8,192, zero allowed)"

@@ -2,7 +2,8 @@
 ghost use mathlib.Core.Path.{_≡_};
 ghost use Prim.Native.Nat.{_+_, _*_, _≤_, _<_};
 ghost use lib.ListN.{length};
-ghost use Rattle.table_bytes.specs.Bytes.{entryCount, entriesStart, tableLength, entryStart};
+ghost use Rattle.table_bytes.specs.Bytes.{countsIn, entryCount, entriesStart, tableLength, entryStart};
+use state::Counts;
 
 // The byte as a number that counts bytes.
 pub fn wide(x: u8) -> usize
@@ -16,6 +17,18 @@ pub fn word(high: u8, low: u8) -> usize
     ensures { λ r. ⌜ (r ≡ high * 256 + low) × (r < 65536) ⌝ }
 {
     wide(high) * 256 + wide(low)
+}
+
+// How many processors, jobs and objects the header says.
+pub fn counts_in(bytes: &[u8]) -> Counts
+    requires { ⌜ 8 ≤ length (now bytes) ⌝ }
+    ensures { λ r. ⌜ r ≡ countsIn (now (bytes .entry)) ⌝ }
+{
+    Counts {
+        processors: bytes[5],
+        jobs: bytes[6],
+        objects: bytes[7],
+    }
 }
 
 // Where the entries start: behind the header, the processor bytes and the entry count.

@@ -2,6 +2,7 @@
 mod bytes;
 mod table_refusals;
 
+pub use bytes::counts_in;
 pub use bytes::entry_count;
 pub use bytes::entry_start;
 pub use bytes::table_length;

@@ -7,6 +7,7 @@ ghost use lib.Dec.{eqb};
 ghost use Rattle.basics.specs.Choice.{between};
 ghost use Rattle.table_bytes.specs.Bytes.{jobsIn, objectsIn, entriesStart, tableLength, entryStart, entryRank, entryObject, entryMode, order};
 ghost use Rattle.table_bytes.specs.Refusals.{headerRefusal, lengthRefusal, processorByteRefusal, entryRefusal, entriesRefusal, tableRefusal};
+use crate::bytes::counts_in;
 use crate::bytes::entries_start;
 use crate::bytes::entry_count;
 use crate::bytes::entry_start;
@@ -36,7 +37,7 @@ fn header_refusal(bytes: &[u8]) -> u8
     if word(bytes[3], bytes[4]) != 1 {
         return 3;
     }
-    if !counts_within(bytes[5], bytes[6], bytes[7]) {
+    if !counts_within(counts_in(bytes)) {
         return 4;
     }
     0

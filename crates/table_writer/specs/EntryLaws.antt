@@ -63,7 +63,7 @@ module _ (mode : ℕ → ℕ → ℕ) where
 
 -- ---- the entries of a state, and how many there are
 
-pub state-entries : (s : State) → entriesBytes s ≡ entriesOfRanks (declaredModes (s .«may_read») (s .«may_write»)) (s .objects) (s .jobs)
+pub state-entries : (s : State) → entriesBytes s ≡ entriesOfRanks (declaredModes (s .«may_read») (s .«may_write»)) (s .counts .objects) (s .counts .jobs)
 unfolding entriesBytes rankBytes entriesOfRanks entriesOfRank
 state-entries s = refl
 

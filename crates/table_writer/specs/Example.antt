@@ -5,12 +5,12 @@ use mathlib.Core.List.{[], _∷_, _++_}
 use Rattle.basics.specs.Loops.{joined}
 use Rattle.ranks.specs.Ranks.{member}
 use Rattle.state.specs.declared.State.{State}
-use Rattle.state.specs.State.{zeros, freshState}
+use Rattle.state.specs.State.{countsOf, zeros, freshState}
 use Rattle.table.specs.Example.{example}
 use Rattle.table_writer.specs.Writing.{rankBytes, entriesBytes, tableBytes}
 
 abbrev pub exampleState : State
-exampleState = freshState 2 4 3 ((0 ∷ 1 ∷ 0 ∷ 1 ∷ []) ++ zeros 60) ((12 ∷ 2 ∷ 2 ∷ []) ++ zeros 125) ((1 ∷ []) ++ zeros 127)
+exampleState = freshState (countsOf 2 4 3) ((0 ∷ 1 ∷ 0 ∷ 1 ∷ []) ++ zeros 60) ((12 ∷ 2 ∷ 2 ∷ []) ++ zeros 125) ((1 ∷ []) ++ zeros 127)
 
 pub example-bytes : tableBytes exampleState ≡ example
 unfolding tableBytes entriesBytes rankBytes joined member

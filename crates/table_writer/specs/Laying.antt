@@ -7,6 +7,7 @@ use Rattle.basics.specs.Choice.{if_then_else_}
 use Rattle.basics.specs.Loops.{joined, sum}
 use Rattle.basics.specs.Arrays.{at}
 use Rattle.ranks.specs.Ranks.{member, union, size}
+use Rattle.state.specs.declared.Counts.{Counts}
 use Rattle.state.specs.State.{freshState}
 use Rattle.table_writer.specs.Writing.{headerBytes, entryBytes, tableBytes}
 
@@ -27,12 +28,12 @@ unfoldable pub entriesOfRanks : (ℕ → ℕ → ℕ) → ℕ → ℕ → List �
 entriesOfRanks mode objects n = joined n (λ r. entriesOfRank mode r objects)
 
 -- the header of a table with these counts
-abbrev pub headerOf : ℕ → ℕ → ℕ → List ℕ
-headerOf p j o = headerBytes (freshState p j o [] [] [])
+abbrev pub headerOf : Counts → List ℕ
+headerOf c = headerBytes (freshState c [] [] [])
 
 -- the table of a state with these parts
-unfoldable pub tableOf : ℕ → ℕ → ℕ → List ℕ → List ℕ → List ℕ → List ℕ
-tableOf p j o ps reads writes = tableBytes (freshState p j o ps reads writes)
+unfoldable pub tableOf : Counts → List ℕ → List ℕ → List ℕ → List ℕ
+tableOf c ps reads writes = tableBytes (freshState c ps reads writes)
 
 -- how many entries object o has
 abbrev pub entriesOn : List ℕ → List ℕ → ℕ → ℕ

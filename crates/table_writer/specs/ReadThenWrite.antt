@@ -14,7 +14,7 @@ use Rattle.basics.specs.Arrays.{at, at-zeros}
 use Rattle.ranks.specs.Ranks.{member}
 use Rattle.ranks.specs.RankLaws.{member-empty}
 use Rattle.state.specs.State.{read, write, mostObjects, zeros}
-use Rattle.table_bytes.specs.Bytes.{byte, processorsIn, jobsIn, objectsIn, entryCount, entriesStart, tableLength, entryRank, entryObject, entryMode, order, orderBefore}
+use Rattle.table_bytes.specs.Bytes.{byte, jobsIn, objectsIn, countsIn, entryCount, entriesStart, tableLength, entryRank, entryObject, entryMode, order, orderBefore}
 use Rattle.table_bytes.specs.AcceptedTable.{AcceptedTable, EntryFits}
 use Rattle.table.specs.Reading.{givesRight, processorsOf, declaredIn, tableState}
 use Rattle.table_writer.specs.Writing.{wordBytes, entriesBytes, tableBytes}
@@ -124,7 +124,7 @@ module _ (b : List ℕ) (ok : AcceptedTable b) where
 
   -- ---- the parts
 
-  header-back : headerOf (processorsIn b) (jobsIn b) (objectsIn b) ≡ take 8 b
+  header-back : headerOf (countsIn b) ≡ take 8 b
   header-back =
       let high : byte b 3 ≡ 0 = omega (arith, ok .version) in
       let low : byte b 4 ≡ 1 = omega (arith, ok .version) in
@@ -165,7 +165,7 @@ module _ (b : List ℕ) (ok : AcceptedTable b) where
   pub table-back : ((i : ℕ) → byte b i < 256) → tableBytes (tableState b) ≡ take (tableLength b) b
   unfolding tableBytes tableState
   table-back bytes =
-      ap (λ (l : List ℕ). headerOf (processorsIn b) (jobsIn b) (objectsIn b) ++ take (jobsIn b) (processorsOf b) ++ wordBytes (length l / 3) ++ l) all-back
+      ap (λ (l : List ℕ). headerOf (countsIn b) ++ take (jobsIn b) (processorsOf b) ++ wordBytes (length l / 3) ++ l) all-back
       ∙ (λ i. header-back i ++ processors-back i ++ (ap wordBytes all-third ∙ count-back (bytes (8 + jobsIn b)) (bytes (8 + jobsIn b + 1))) i
       ++ take (3 * entryCount b) (drop (entriesStart b) b))
       ∙ parts-back

@@ -5,9 +5,8 @@ use mathlib.Core.Bool.{true}
 use mathlib.Core.List.{List, _++_}
 use Prim.Native.Nat.{ℕ, _-_, _≤_, _<_}
 use lib.ListN.{length, take, drop}
-use Rattle.ranks.specs.Ranks.{limit}
 use Rattle.state.specs.declared.State.{State}
-use Rattle.state.specs.State.{mostObjects, zeros, freshState}
+use Rattle.state.specs.State.{mostJobs, mostObjects, zeros, freshState}
 use Rattle.state.specs.WellFormed.{wellFormed}
 use Rattle.table.specs.declared.TableRead.{TableRead}
 use Rattle.table_bytes.specs.Bytes.{byte}
@@ -34,11 +33,11 @@ abbrev pub readAgain : State → TableRead
 readAgain s = record {
   refusal = 0;
   used = length (tableBytes s);
-  state = freshState (s .processors) (s .jobs) (s .objects) (take (s .jobs) (s .«processor_of») ++ zeros (limit - s .jobs)) (s .«may_read») (s .«may_write»);
+  state = freshState (s .counts) (take (s .counts .jobs) (s .«processor_of») ++ zeros (mostJobs - s .counts .jobs)) (s .«may_read») (s .«may_write»);
 }
 
 -- of a well-formed state, the table's bytes, with anything behind them, are read so
-module _ (s : State) (processors-long : length (s .«processor_of») ≡ limit)
+module _ (s : State) (processors-long : length (s .«processor_of») ≡ mostJobs)
     (reads-long : length (s .«may_read») ≡ mostObjects) (writes-long : length (s .«may_write») ≡ mostObjects) (good : wellFormed s ≡ true) where
   pub write-then-read : (rest : List ℕ) → readTable (tableBytes s ++ rest) ≡ readAgain s
   write-then-read rest =

@@ -10,11 +10,12 @@ use lib.Seq.{getD-append-add, getD-drop, getD-take, drop-at, take-at, length-tak
 use lib.Count.{ones-le}
 use Rattle.basics.specs.Loops.{sum-at-most}
 use Rattle.basics.specs.Arrays.{at}
-use Rattle.ranks.specs.Ranks.{limit}
 use Rattle.ranks.specs.UnionLaws.{le-union}
+use Rattle.state.specs.declared.Counts.{Counts}
 use Rattle.state.specs.declared.State.{State}
-use Rattle.state.specs.State.{read, write, mostObjects, zeros, freshState, declaredAny}
-use Rattle.table_bytes.specs.Bytes.{byte, processorsIn, jobsIn, objectsIn, entryCount, entriesStart, tableLength}
+use Rattle.state.specs.State.{mostJobs, read, write, mostObjects, zeros, freshState, declaredAny}
+use Rattle.table_bytes.specs.Refusals.{mostEntries}
+use Rattle.table_bytes.specs.Bytes.{byte, jobsIn, objectsIn, countsIn, entryCount, entriesStart, tableLength}
 use Rattle.table_bytes.specs.AcceptedTable.{AcceptedTable}
 use Rattle.table.specs.Declarations.{declared-fits}
 use Rattle.table.specs.Reading.{processorsOf, declaredIn, tableState}
@@ -26,7 +27,7 @@ use Rattle.table_writer.specs.TableLaws.{entry-third, front-length, entr
 use Rattle.table_writer.specs.WrittenEntries.{entries-fit, reads-again, writes-again}
 
 module _ (s : State) (fits : TableFits s) (rest : List ℕ)
-    (processors-long : length (s .«processor_of») ≡ limit) (reads-long : length (s .«may_read») ≡ mostObjects) (writes-long : length (s .«may_write») ≡ mostObjects) where
+    (processors-long : length (s .«processor_of») ≡ mostJobs) (reads-long : length (s .«may_read») ≡ mostObjects) (writes-long : length (s .«may_write») ≡ mostObjects) where
   abbrev b : List ℕ
   b = tableBytes s ++ rest
 
@@ -34,34 +35,34 @@ module _ (s : State) (fits : TableFits s) (rest : List ℕ)
   header = headerBytes s
 
   abbrev homes : List ℕ
-  homes = take (s .jobs) (s .«processor_of»)
+  homes = take (s .counts .jobs) (s .«processor_of»)
 
   -- ---- the entry count
 
   n : ℕ
-  n = entryTotal (s .«may_read») (s .«may_write») (s .objects)
+  n = entryTotal (s .«may_read») (s .«may_write») (s .counts .objects)
 
   n-third : 3 * n ≡ length (entriesBytes s)
   unfolding n
   n-third = entries-total s fits
 
-  n-most : n ≤ 8192
+  n-most : n ≤ mostEntries
   unfolding n entryTotal
   n-most =
-      let each = sum-at-most (s .objects) limit (entriesOn (s .«may_read») (s .«may_write»)) small in
+      let each = sum-at-most (s .counts .objects) mostJobs (entriesOn (s .«may_read») (s .«may_write»)) small in
       omega (arith, each, fits .objects-high)
     where
-      small : (o : ℕ) → 1 ≤ o → o ≤ s .objects → entriesOn (s .«may_read») (s .«may_write») o ≤ limit
+      small : (o : ℕ) → 1 ≤ o → o ≤ s .counts .objects → entriesOn (s .«may_read») (s .«may_write») o ≤ mostJobs
       small o a h =
-          le-trans (ones-le (s .jobs) (declaredAny s o) (fits .declared-small o a (omega (arith, fits .objects-high)))) (fits .jobs-high)
+          le-trans (ones-le (s .counts .jobs) (declaredAny s o) (fits .declared-small o a (omega (arith, fits .objects-high)))) (fits .jobs-high)
 
   -- ---- the parts
 
-  room : s .jobs ≤ length (s .«processor_of»)
+  room : s .counts .jobs ≤ length (s .«processor_of»)
   room = omega (arith, fits .jobs-high)
 
-  homes-length : length homes ≡ s .jobs
-  homes-length = length-take-le (s .jobs) (s .«processor_of») room
+  homes-length : length homes ≡ s .counts .jobs
+  homes-length = length-take-le (s .counts .jobs) (s .«processor_of») room
 
   behind : List ℕ
   behind = wordBytes n ++ (entriesBytes s ++ rest)
@@ -71,45 +72,43 @@ module _ (s : State) (fits : TableFits s) (rest : List ℕ)
   whole =
       ap (λ (k : ℕ). (header ++ homes ++ wordBytes k ++ entriesBytes s) ++ rest) (entry-third s n room n-third) ∙ simp append-assoc
 
-  front : length (header ++ homes) ≡ 8 + s .jobs
+  front : length (header ++ homes) ≡ 8 + s .counts .jobs
   front = front-length s n room n-third
 
-  long : length b ≡ 10 + s .jobs + 3 * n + length rest
+  long : length b ≡ 10 + s .counts .jobs + 3 * n + length rest
   unfolding n
   long = length-append (tableBytes s) rest ∙ ap (λ (k : ℕ). k + length rest) (whole-length s fits processors-long)
 
   -- ---- the header, the processor bytes and the count are read as they were written
 
-  processors-are : processorsIn b ≡ s .processors
+  counts-are : countsIn b ≡ s .counts
   unfolding tableBytes
-  processors-are = refl
+  counts-are = refl
 
-  jobs-are : jobsIn b ≡ s .jobs
-  unfolding tableBytes
-  jobs-are = refl
+  jobs-are : jobsIn b ≡ s .counts .jobs
+  jobs-are = ap (λ (c : Counts). c .jobs) counts-are
 
-  objects-are : objectsIn b ≡ s .objects
-  unfolding tableBytes
-  objects-are = refl
+  objects-are : objectsIn b ≡ s .counts .objects
+  objects-are = ap (λ (c : Counts). c .objects) counts-are
 
   after-header : drop 8 b ≡ homes ++ behind
   after-header = ap (drop 8) whole
 
-  home-is : (k : ℕ) → k < s .jobs → byte b (8 + k) ≡ getD (s .«processor_of») k 0
+  home-is : (k : ℕ) → k < s .counts .jobs → byte b (8 + k) ≡ getD (s .«processor_of») k 0
   home-is k l =
       sym (getD-drop 8 b k 0) ∙ ap (λ (x : List ℕ). getD x k 0) after-header
-      ∙ List·getD-append homes behind 0 k (omega (arith, homes-length)) ∙ getD-take (s .jobs) (s .«processor_of») k 0 l
+      ∙ List·getD-append homes behind 0 k (omega (arith, homes-length)) ∙ getD-take (s .counts .jobs) (s .«processor_of») k 0 l
 
-  after-front : (i : ℕ) → byte b (8 + s .jobs + i) ≡ getD behind i 0
+  after-front : (i : ℕ) → byte b (8 + s .counts .jobs + i) ≡ getD behind i 0
   after-front i =
       ap₂ (λ (l : List ℕ) (k : ℕ). getD l (k + i) 0) (whole ∙ sym (append-assoc header homes behind)) (sym front)
       ∙ getD-append-add (header ++ homes) behind i 0
 
-  high : byte b (8 + s .jobs) ≡ n / 256 % 256
+  high : byte b (8 + s .counts .jobs) ≡ n / 256 % 256
   unfolding behind
-  high = ap (byte b) (sym (add-zero (8 + s .jobs))) ∙ after-front 0
+  high = ap (byte b) (sym (add-zero (8 + s .counts .jobs))) ∙ after-front 0
 
-  low : byte b (8 + s .jobs + 1) ≡ n % 256
+  low : byte b (8 + s .counts .jobs + 1) ≡ n % 256
   unfolding behind
   low = after-front 1
 
@@ -117,7 +116,7 @@ module _ (s : State) (fits : TableFits s) (rest : List ℕ)
   unfolding tableBytes
   count-is = omega (arith, high, low, n-most)
 
-  tail : drop (entriesStart b) b ≡ entriesOfRanks (declaredModes (s .«may_read») (s .«may_write»)) (s .objects) (s .jobs) ++ rest
+  tail : drop (entriesStart b) b ≡ entriesOfRanks (declaredModes (s .«may_read») (s .«may_write»)) (s .counts .objects) (s .counts .jobs) ++ rest
   unfolding behind
   tail =
       let parts : b ≡ (header ++ homes ++ wordBytes n) ++ (entriesBytes s ++ rest) = whole ∙ simp append-assoc in
@@ -128,19 +127,19 @@ module _ (s : State) (fits : TableFits s) (rest : List ℕ)
 
   -- ---- the entries
 
-  is-third : 3 * n ≡ length (entriesOfRanks (declaredModes (s .«may_read») (s .«may_write»)) (s .objects) (s .jobs))
+  is-third : 3 * n ≡ length (entriesOfRanks (declaredModes (s .«may_read») (s .«may_write»)) (s .counts .objects) (s .counts .jobs))
   is-third = n-third ∙ ap length (state-entries s)
 
-  reads-out : (o : ℕ) → s .objects < o → o ≤ mostObjects → at (s .«may_read») o ≡ 0
+  reads-out : (o : ℕ) → s .counts .objects < o → o ≤ mostObjects → at (s .«may_read») o ≡ 0
   reads-out o a h = omega (arith, fits .declared-none o a h, le-union (at (s .«may_read») o) (at (s .«may_write») o) .0)
 
-  writes-out : (o : ℕ) → s .objects < o → o ≤ mostObjects → at (s .«may_write») o ≡ 0
+  writes-out : (o : ℕ) → s .counts .objects < o → o ≤ mostObjects → at (s .«may_write») o ≡ 0
   writes-out o a h = omega (arith, fits .declared-none o a h, le-union (at (s .«may_read») o) (at (s .«may_write») o) .1)
 
-  reads-small : (o : ℕ) → 1 ≤ o → o ≤ mostObjects → at (s .«may_read») o < 2 ^ s .jobs
+  reads-small : (o : ℕ) → 1 ≤ o → o ≤ mostObjects → at (s .«may_read») o < 2 ^ s .counts .jobs
   reads-small o a h = omega (arith, fits .declared-small o a h, le-union (at (s .«may_read») o) (at (s .«may_write») o) .0)
 
-  writes-small : (o : ℕ) → 1 ≤ o → o ≤ mostObjects → at (s .«may_write») o < 2 ^ s .jobs
+  writes-small : (o : ℕ) → 1 ≤ o → o ≤ mostObjects → at (s .«may_write») o < 2 ^ s .counts .jobs
   writes-small o a h = omega (arith, fits .declared-small o a h, le-union (at (s .«may_read») o) (at (s .«may_write») o) .1)
 
   pub table-accepted : AcceptedTable b
@@ -164,40 +163,40 @@ module _ (s : State) (fits : TableFits s) (rest : List ℕ)
         count-high = omega (arith, n-most);
         table-within = omega (arith, long);
         processor = λ k l. omega (arith, home-is k l, fits .processor (suc k) (omega arith) l);
-        entry = λ k l. entries-fit (s .«may_read») (s .«may_write») (s .objects) (s .jobs) b rest (fits .objects-high) jobs-are objects-are tail reads-out writes-out n is-third
+        entry = λ k l. entries-fit (s .«may_read») (s .«may_write») (s .counts .objects) (s .counts .jobs) b rest (fits .objects-high) jobs-are objects-are tail reads-out writes-out n is-third
             k (omega (arith, c));
       }
 
   -- ---- the declared sets
 
-  read-small : (m o : ℕ) → at (declaredIn m b n) o < 2 ^ s .jobs
+  read-small : (m o : ℕ) → at (declaredIn m b n) o < 2 ^ s .counts .jobs
   read-small m o =
       subst₂ (λ (k j : ℕ). at (declaredIn m b k) o < 2 ^ j) count-is jobs-are (declared-fits b table-accepted m (entryCount b) (le-refl (entryCount b)) .of-jobs o)
 
   reads-back : declaredIn read b (entryCount b) ≡ s .«may_read»
   reads-back =
       ap (declaredIn read b) count-is
-      ∙ reads-again (s .«may_read») (s .«may_write») (s .objects) (s .jobs) b rest (fits .objects-high) jobs-are objects-are tail reads-out writes-out n is-third
+      ∙ reads-again (s .«may_read») (s .«may_write») (s .counts .objects) (s .counts .jobs) b rest (fits .objects-high) jobs-are objects-are tail reads-out writes-out n is-third
       reads-long reads-small (read-small read)
 
   writes-back : declaredIn write b (entryCount b) ≡ s .«may_write»
   writes-back =
       ap (declaredIn write b) count-is
-      ∙ writes-again (s .«may_read») (s .«may_write») (s .objects) (s .jobs) b rest (fits .objects-high) jobs-are objects-are tail reads-out writes-out n is-third
+      ∙ writes-again (s .«may_read») (s .«may_write») (s .counts .objects) (s .counts .jobs) b rest (fits .objects-high) jobs-are objects-are tail reads-out writes-out n is-third
       writes-long writes-small (read-small write)
 
   -- ---- the whole
 
-  processors-back : processorsOf b ≡ homes ++ zeros (limit - s .jobs)
+  processors-back : processorsOf b ≡ homes ++ zeros (mostJobs - s .counts .jobs)
   unfolding processorsOf
   processors-back =
-      ap (λ (k : ℕ). take k (drop 8 b) ++ zeros (limit - k)) jobs-are
-      ∙ ap (λ (l : List ℕ). l ++ zeros (limit - s .jobs)) (ap (take (s .jobs)) after-header ∙ take-at homes behind (s .jobs) homes-length)
+      ap (λ (k : ℕ). take k (drop 8 b) ++ zeros (mostJobs - k)) jobs-are
+      ∙ ap (λ (l : List ℕ). l ++ zeros (mostJobs - s .counts .jobs)) (ap (take (s .counts .jobs)) after-header ∙ take-at homes behind (s .counts .jobs) homes-length)
 
   pub used-is : tableLength b ≡ length (tableBytes s)
   unfolding n
   used-is = omega (arith, jobs-are, count-is, whole-length s fits processors-long)
 
-  pub state-back : tableState b ≡ freshState (s .processors) (s .jobs) (s .objects) (homes ++ zeros (limit - s .jobs)) (s .«may_read») (s .«may_write»)
+  pub state-back : tableState b ≡ freshState (s .counts) (homes ++ zeros (mostJobs - s .counts .jobs)) (s .«may_read») (s .«may_write»)
   unfolding tableState
-  state-back = λ i. freshState (processors-are i) (jobs-are i) (objects-are i) (processors-back i) (reads-back i) (writes-back i)
+  state-back = λ i. freshState (counts-are i) (processors-back i) (reads-back i) (writes-back i)

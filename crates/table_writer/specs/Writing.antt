@@ -28,19 +28,19 @@ entryBytes rank object (suc m) = rank ∷ object ∷ suc m ∷ []
 
 -- the entries of rank r, by object
 unfoldable pub rankBytes : State → ℕ → List ℕ
-rankBytes s r = joined (s .objects) (λ o. entryBytes r o (declaredMode s r o))
+rankBytes s r = joined (s .counts .objects) (λ o. entryBytes r o (declaredMode s r o))
 
 -- the entries of all ranks, "strictly ascending by rank, then object"
 unfoldable pub entriesBytes : State → List ℕ
-entriesBytes s = joined (s .jobs) (rankBytes s)
+entriesBytes s = joined (s .counts .jobs) (rankBytes s)
 
 abbrev pub headerBytes : State → List ℕ
-headerBytes s = 74 ∷ 79 ∷ 66 ∷ 0 ∷ 1 ∷ s .processors ∷ s .jobs ∷ s .objects ∷ []
+headerBytes s = 74 ∷ 79 ∷ 66 ∷ 0 ∷ 1 ∷ s .counts .processors ∷ s .counts .jobs ∷ s .counts .objects ∷ []
 
 -- the bytes of a state's table
 unfoldable pub tableBytes : State → List ℕ
 tableBytes s =
-    headerBytes s ++ take (s .jobs) (s .«processor_of») ++ wordBytes (length (entriesBytes s) / 3) ++ entriesBytes s
+    headerBytes s ++ take (s .counts .jobs) (s .«processor_of») ++ wordBytes (length (entriesBytes s) / 3) ++ entriesBytes s
 
 -- "the writer's 8, 20": 20 "lent buffer shorter than the table to write"
 unfoldable pub writeRefusal : State → List ℕ → ℕ

@@ -3,13 +3,14 @@ ghost use mathlib.Core.Path.{_≡_};
 ghost use Prim.Native.Nat.{_+_, _*_, _≤_};
 ghost use lib.ListN.{length, take};
 ghost use Rattle.basics.specs.Choice.{if_then_else_};
-ghost use Rattle.ranks.specs.Ranks.{limit};
+ghost use Rattle.state.specs.State.{mostObjects, mostJobs};
 ghost use Rattle.table_writer.specs.Writing.{wordBytes, entryBytes};
 ghost use Rattle.table_writer.specs.Laying.{declaredModeOf, declaredModes, entriesOfRank, entriesOfRanks, headerOf, tableOf, laid};
 use ranks::RankSet;
 use ranks::contains;
+use state::Counts;
 use state::JobProcessors;
-use state::ObjectSets;
+use state::Sets;
 
 // The number where the test holds, else 0.
 fn when(test: bool, number: u8) -> u8
@@ -20,7 +21,7 @@ fn when(test: bool, number: u8) -> u8
 
 // The mode of the rank's entry for an object with these declared ranks: 1 read, 2 write, 3 both, 0 none.
 fn declared_mode(reads: RankSet, writes: RankSet, rank: u8) -> u8
-    requires { ⌜ (1 ≤ rank) × (rank ≤ limit) ⌝ }
+    requires { ⌜ (1 ≤ rank) × (rank ≤ mostJobs) ⌝ }
     ensures { λ r. ⌜ r ≡ declaredModeOf reads writes rank ⌝ }
 {
     when(contains(reads, rank), 1) + when(contains(writes, rank), 2)
@@ -45,12 +46,12 @@ fn lay_entry(buf: &mut [u8], at: usize, rank: u8, object: u8, mode: u8) -> usize
 fn lay_rank<'a>(
     buf: &mut [u8],
     at: usize,
-    reads: &'a ObjectSets,
-    writes: &'a ObjectSets,
+    reads: Sets<'a>,
+    writes: Sets<'a>,
     rank: u8,
     objects: u8,
 ) -> usize
-    requires { ⌜ (1 ≤ rank) × (rank ≤ limit) × (objects ≤ 128)
+    requires { ⌜ (1 ≤ rank) × (rank ≤ mostJobs) × (objects ≤ mostObjects)
         × (at + length (entriesOfRank (declaredModes (now reads) (now writes)) rank objects) ≤ length (now buf)) ⌝ }
     ensures { λ r. ⌜ (r ≡ at + length (entriesOfRank (declaredModes (now (reads .entry)) (now (writes .entry))) rank objects))
         × (now (buf .exit) ≡ laid (now (buf .entry)) at (entriesOfRank (declaredModes (now (reads .entry)) (now (writes .entry))) rank objects)) ⌝ }
@@ -75,12 +76,12 @@ fn lay_rank<'a>(
 fn lay_entries<'a>(
     buf: &mut [u8],
     at: usize,
-    reads: &'a ObjectSets,
-    writes: &'a ObjectSets,
+    reads: Sets<'a>,
+    writes: Sets<'a>,
     jobs: u8,
     objects: u8,
 )
-    requires { ⌜ (jobs ≤ limit) × (objects ≤ 128)
+    requires { ⌜ (jobs ≤ mostJobs) × (objects ≤ mostObjects)
         × (at + length (entriesOfRanks (declaredModes (now reads) (now writes)) objects jobs) ≤ length (now buf)) ⌝ }
     ensures { λ _. ⌜ now (buf .exit) ≡ laid (now (buf .entry)) at (entriesOfRanks (declaredModes (now (reads .entry)) (now (writes .entry))) objects jobs) ⌝ }
 {
@@ -93,23 +94,23 @@ fn lay_entries<'a>(
 }
 
 // The mark, the version and the three counts laid at the front.
-fn lay_header(buf: &mut [u8], processors: u8, jobs: u8, objects: u8)
+fn lay_header(buf: &mut [u8], counts: Counts)
     requires { ⌜ 8 ≤ length (now buf) ⌝ }
-    ensures { λ _. ⌜ now (buf .exit) ≡ laid (now (buf .entry)) 0 (headerOf processors jobs objects) ⌝ }
+    ensures { λ _. ⌜ now (buf .exit) ≡ laid (now (buf .entry)) 0 (headerOf counts) ⌝ }
 {
     buf[0] = b'J';
     buf[1] = b'O';
     buf[2] = b'B';
     buf[3] = 0;
     buf[4] = 1;
-    buf[5] = processors;
-    buf[6] = jobs;
-    buf[7] = objects;
+    buf[5] = counts.processors;
+    buf[6] = counts.jobs;
+    buf[7] = counts.objects;
 }
 
 // The processor bytes of the ranks up to the job count laid behind the header.
 fn lay_processors(buf: &mut [u8], processor_of: &JobProcessors, jobs: usize)
-    requires { ⌜ (jobs ≤ limit) × (length (now «processor_of») ≡ limit) × (8 + jobs ≤ length (now buf)) ⌝ }
+    requires { ⌜ (jobs ≤ mostJobs) × (length (now «processor_of») ≡ mostJobs) × (8 + jobs ≤ length (now buf)) ⌝ }
     ensures { λ _. ⌜ now (buf .exit) ≡ laid (now (buf .entry)) 8 (take jobs (now («processor_of» .entry))) ⌝ }
 {
     let mut i = 0;
@@ -131,23 +132,22 @@ fn lay_word(buf: &mut [u8], at: usize, number: usize)
 // The table laid at the front of the buffer, the rest left; the entry count is given.
 pub fn lay_table<'a>(
     buf: &mut [u8],
-    processors: u8,
-    jobs: u8,
-    objects: u8,
+    counts: Counts,
     processor_of: &'a JobProcessors,
-    reads: &'a ObjectSets,
-    writes: &'a ObjectSets,
+    reads: Sets<'a>,
+    writes: Sets<'a>,
     count: usize,
 )
-    requires { ⌜ (jobs ≤ limit) × (objects ≤ 128) × (length (now «processor_of») ≡ limit)
-        × (3 * count ≡ length (entriesOfRanks (declaredModes (now reads) (now writes)) objects jobs))
-        × (10 + jobs + 3 * count ≤ length (now buf)) ⌝ }
+    requires { ⌜ (counts .jobs ≤ mostJobs) × (counts .objects ≤ mostObjects) × (length (now «processor_of») ≡ mostJobs)
+        × (3 * count ≡ length (entriesOfRanks (declaredModes (now reads) (now writes)) (counts .objects) (counts .jobs)))
+        × (10 + counts .jobs + 3 * count ≤ length (now buf)) ⌝ }
     ensures { λ _. ⌜ now (buf .exit) ≡ laid (now (buf .entry)) 0
-        (tableOf processors jobs objects (now («processor_of» .entry)) (now (reads .entry)) (now (writes .entry))) ⌝ }
+        (tableOf counts (now («processor_of» .entry)) (now (reads .entry)) (now (writes .entry))) ⌝ }
 {
-    let at = 8 + jobs as usize;
-    lay_header(buf, processors, jobs, objects);
-    lay_processors(buf, processor_of, jobs as usize);
+    let jobs = counts.jobs as usize;
+    let at = 8 + jobs;
+    lay_header(buf, counts);
+    lay_processors(buf, processor_of, jobs);
     lay_word(buf, at, count);
-    lay_entries(buf, at + 2, reads, writes, jobs, objects);
+    lay_entries(buf, at + 2, reads, writes, counts.jobs, counts.objects);
 }

@@ -26,16 +26,15 @@ pub fn write_table(state: State, buf: &mut [u8]) -> Written
     if !is_well_formed(state) {
         return Written::Refused(8);
     }
-    let count = entry_count(&state.may_read, &state.may_write, state.objects);
-    let length = 10 + state.jobs as usize + 3 * count;
+    let counts = state.counts;
+    let count = entry_count(&state.may_read, &state.may_write, counts.objects);
+    let length = 10 + counts.jobs as usize + 3 * count;
     if buf.len() < length {
         return Written::Refused(20);
     }
     lay_table(
         buf,
-        state.processors,
-        state.jobs,
-        state.objects,
+        counts,
         &state.processor_of,
         &state.may_read,
         &state.may_write,

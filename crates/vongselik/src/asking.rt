@@ -1,6 +1,6 @@
 // The questions, on the lent parts of a state: each answers the refusal's number, or 0 and its values in lent cells.
 ghost use mathlib.Core.Path.{_≡_};
-ghost use Rattle.state.specs.State.{stateOf};
+ghost use Rattle.state.specs.State.{countsOf, stateOf};
 ghost use Rattle.questions.specs.Questions as Q;
 ghost use Rattle.basics.specs.Replies.{value};
 ghost use Rattle.questions.specs.Answers.{rankReply, namedReply, ceilingsReply};
@@ -12,9 +12,10 @@ use questions::ask_inherited_rank;
 use questions::ask_named_lock;
 use questions::ask_running;
 use ranks::RankSet;
+use state::Counts;
 use state::JobProcessors;
 use state::JobRequests;
-use state::ObjectSets;
+use state::Sets;
 
 // A job's inherited rank. Refused by 8, 10, 13.
 #[no_mangle]
@@ -23,25 +24,28 @@ pub extern "C" fn vongselik_parts_inherited_rank<'a>(
     jobs: u8,
     objects: u8,
     processor_of: &'a JobProcessors,
-    may_read: &'a ObjectSets,
-    may_write: &'a ObjectSets,
+    may_read: Sets<'a>,
+    may_write: Sets<'a>,
     active: RankSet,
     unlocked: RankSet,
-    readers: &'a ObjectSets,
-    writers: &'a ObjectSets,
+    readers: Sets<'a>,
+    writers: Sets<'a>,
     request: &'a JobRequests,
     rank: u8,
     inherited: &mut u8,
 ) -> u8
-    ensures number { λ r. ⌜ r ≡ rankReply (Q.askInheritedRank (stateOf processors jobs objects (now («processor_of» .entry)) (now («may_read» .entry)) (now («may_write» .entry))
+    ensures number { λ r. ⌜ r ≡ rankReply (Q.askInheritedRank (stateOf (countsOf processors jobs objects) (now («processor_of» .entry)) (now («may_read» .entry)) (now («may_write» .entry))
         active unlocked (now (readers .entry)) (now (writers .entry)) (now (request .entry))) rank) .refusal ⌝ }
-    ensures inherited { λ _. ⌜ now (inherited .exit) ≡ value (rankReply (Q.askInheritedRank (stateOf processors jobs objects (now («processor_of» .entry)) (now («may_read» .entry)) (now («may_write» .entry))
+    ensures inherited { λ _. ⌜ now (inherited .exit) ≡ value (rankReply (Q.askInheritedRank (stateOf (countsOf processors jobs objects) (now («processor_of» .entry)) (now («may_read» .entry)) (now («may_write» .entry))
         active unlocked (now (readers .entry)) (now (writers .entry)) (now (request .entry))) rank)) 0 (now (inherited .entry)) ⌝ }
 {
-    let answer = ask_inherited_rank(
+    let counts = Counts {
         processors,
         jobs,
         objects,
+    };
+    let answer = ask_inherited_rank(
+        counts,
         processor_of,
         may_read,
         may_write,
@@ -68,28 +72,31 @@ pub extern "C" fn vongselik_parts_named_lock<'a>(
     jobs: u8,
     objects: u8,
     processor_of: &'a JobProcessors,
-    may_read: &'a ObjectSets,
-    may_write: &'a ObjectSets,
+    may_read: Sets<'a>,
+    may_write: Sets<'a>,
     active: RankSet,
     unlocked: RankSet,
-    readers: &'a ObjectSets,
-    writers: &'a ObjectSets,
+    readers: Sets<'a>,
+    writers: Sets<'a>,
     request: &'a JobRequests,
     rank: u8,
     holder: &mut u8,
     object: &mut u8,
 ) -> u8
-    ensures number { λ r. ⌜ r ≡ namedReply (Q.askNamedLock (stateOf processors jobs objects (now («processor_of» .entry)) (now («may_read» .entry)) (now («may_write» .entry))
+    ensures number { λ r. ⌜ r ≡ namedReply (Q.askNamedLock (stateOf (countsOf processors jobs objects) (now («processor_of» .entry)) (now («may_read» .entry)) (now («may_write» .entry))
         active unlocked (now (readers .entry)) (now (writers .entry)) (now (request .entry))) rank) .refusal ⌝ }
-    ensures holder { λ _. ⌜ now (holder .exit) ≡ value (namedReply (Q.askNamedLock (stateOf processors jobs objects (now («processor_of» .entry)) (now («may_read» .entry)) (now («may_write» .entry))
+    ensures holder { λ _. ⌜ now (holder .exit) ≡ value (namedReply (Q.askNamedLock (stateOf (countsOf processors jobs objects) (now («processor_of» .entry)) (now («may_read» .entry)) (now («may_write» .entry))
         active unlocked (now (readers .entry)) (now (writers .entry)) (now (request .entry))) rank)) 0 (now (holder .entry)) ⌝ }
-    ensures object { λ _. ⌜ now (object .exit) ≡ value (namedReply (Q.askNamedLock (stateOf processors jobs objects (now («processor_of» .entry)) (now («may_read» .entry)) (now («may_write» .entry))
+    ensures object { λ _. ⌜ now (object .exit) ≡ value (namedReply (Q.askNamedLock (stateOf (countsOf processors jobs objects) (now («processor_of» .entry)) (now («may_read» .entry)) (now («may_write» .entry))
         active unlocked (now (readers .entry)) (now (writers .entry)) (now (request .entry))) rank)) 1 (now (object .entry)) ⌝ }
 {
-    let answer = ask_named_lock(
+    let counts = Counts {
         processors,
         jobs,
         objects,
+    };
+    let answer = ask_named_lock(
+        counts,
         processor_of,
         may_read,
         may_write,
@@ -120,28 +127,31 @@ pub extern "C" fn vongselik_parts_ceilings<'a>(
     jobs: u8,
     objects: u8,
     processor_of: &'a JobProcessors,
-    may_read: &'a ObjectSets,
-    may_write: &'a ObjectSets,
+    may_read: Sets<'a>,
+    may_write: Sets<'a>,
     active: RankSet,
     unlocked: RankSet,
-    readers: &'a ObjectSets,
-    writers: &'a ObjectSets,
+    readers: Sets<'a>,
+    writers: Sets<'a>,
     request: &'a JobRequests,
     object: u8,
     write_ceiling: &mut u16,
     absolute_ceiling: &mut u16,
 ) -> u8
-    ensures number { λ r. ⌜ r ≡ ceilingsReply (Q.askCeilings (stateOf processors jobs objects (now («processor_of» .entry)) (now («may_read» .entry)) (now («may_write» .entry))
+    ensures number { λ r. ⌜ r ≡ ceilingsReply (Q.askCeilings (stateOf (countsOf processors jobs objects) (now («processor_of» .entry)) (now («may_read» .entry)) (now («may_write» .entry))
         active unlocked (now (readers .entry)) (now (writers .entry)) (now (request .entry))) object) .refusal ⌝ }
-    ensures write { λ _. ⌜ now («write_ceiling» .exit) ≡ value (ceilingsReply (Q.askCeilings (stateOf processors jobs objects (now («processor_of» .entry)) (now («may_read» .entry)) (now («may_write» .entry))
+    ensures write { λ _. ⌜ now («write_ceiling» .exit) ≡ value (ceilingsReply (Q.askCeilings (stateOf (countsOf processors jobs objects) (now («processor_of» .entry)) (now («may_read» .entry)) (now («may_write» .entry))
         active unlocked (now (readers .entry)) (now (writers .entry)) (now (request .entry))) object)) 0 (now («write_ceiling» .entry)) ⌝ }
-    ensures absolute { λ _. ⌜ now («absolute_ceiling» .exit) ≡ value (ceilingsReply (Q.askCeilings (stateOf processors jobs objects (now («processor_of» .entry)) (now («may_read» .entry)) (now («may_write» .entry))
+    ensures absolute { λ _. ⌜ now («absolute_ceiling» .exit) ≡ value (ceilingsReply (Q.askCeilings (stateOf (countsOf processors jobs objects) (now («processor_of» .entry)) (now («may_read» .entry)) (now («may_write» .entry))
         active unlocked (now (readers .entry)) (now (writers .entry)) (now (request .entry))) object)) 1 (now («absolute_ceiling» .entry)) ⌝ }
 {
-    let answer = ask_ceilings(
+    let counts = Counts {
         processors,
         jobs,
         objects,
+    };
+    let answer = ask_ceilings(
+        counts,
         processor_of,
         may_read,
         may_write,
@@ -169,25 +179,28 @@ pub extern "C" fn vongselik_parts_running<'a>(
     jobs: u8,
     objects: u8,
     processor_of: &'a JobProcessors,
-    may_read: &'a ObjectSets,
-    may_write: &'a ObjectSets,
+    may_read: Sets<'a>,
+    may_write: Sets<'a>,
     active: RankSet,
     unlocked: RankSet,
-    readers: &'a ObjectSets,
-    writers: &'a ObjectSets,
+    readers: Sets<'a>,
+    writers: Sets<'a>,
     request: &'a JobRequests,
     processor: u8,
     rank: &mut u8,
 ) -> u8
-    ensures number { λ r. ⌜ r ≡ rankReply (Q.askRunning (stateOf processors jobs objects (now («processor_of» .entry)) (now («may_read» .entry)) (now («may_write» .entry))
+    ensures number { λ r. ⌜ r ≡ rankReply (Q.askRunning (stateOf (countsOf processors jobs objects) (now («processor_of» .entry)) (now («may_read» .entry)) (now («may_write» .entry))
         active unlocked (now (readers .entry)) (now (writers .entry)) (now (request .entry))) processor) .refusal ⌝ }
-    ensures rank { λ _. ⌜ now (rank .exit) ≡ value (rankReply (Q.askRunning (stateOf processors jobs objects (now («processor_of» .entry)) (now («may_read» .entry)) (now («may_write» .entry))
+    ensures rank { λ _. ⌜ now (rank .exit) ≡ value (rankReply (Q.askRunning (stateOf (countsOf processors jobs objects) (now («processor_of» .entry)) (now («may_read» .entry)) (now («may_write» .entry))
         active unlocked (now (readers .entry)) (now (writers .entry)) (now (request .entry))) processor)) 0 (now (rank .entry)) ⌝ }
 {
-    let answer = ask_running(
+    let counts = Counts {
         processors,
         jobs,
         objects,
+    };
+    let answer = ask_running(
+        counts,
         processor_of,
         may_read,
         may_write,

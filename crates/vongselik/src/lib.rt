@@ -1,6 +1,6 @@
 // The lock manager for C: events, questions and tables on the parts of a state of the caller's, each lent by itself.
 ghost use mathlib.Core.Path.{_≡_};
-ghost use Rattle.state.specs.State.{stateOf};
+ghost use Rattle.state.specs.State.{countsOf, stateOf};
 ghost use Rattle.events.specs.Answers.{paper};
 ghost use Rattle.manager.specs.Step.{step};
 ghost use Rattle.vongselik.specs.Packing.{packed, unpacked};
@@ -12,9 +12,11 @@ mod tables;
 
 pub use packing::pack;
 use ranks::RankSet;
+use state::Counts;
 use state::JobProcessors;
 use state::JobRequests;
-use state::ObjectSets;
+use state::Sets;
+use state::SetsMut;
 
 // An event: its answer packed into a number that can be taken apart again, and the parts of the next state. A refusal, by 8 to 18, leaves every part as it was.
 #[no_mangle]
@@ -23,30 +25,33 @@ pub extern "C" fn vongselik_parts_event<'a>(
     jobs: u8,
     objects: u8,
     processor_of: &'a JobProcessors,
-    may_read: &'a ObjectSets,
-    may_write: &'a ObjectSets,
+    may_read: Sets<'a>,
+    may_write: Sets<'a>,
     active: &mut RankSet,
     unlocked: &mut RankSet,
-    readers: &mut ObjectSets,
-    writers: &mut ObjectSets,
+    readers: SetsMut,
+    writers: SetsMut,
     request: &mut JobRequests,
     kind: u8,
     rank: u8,
     object: u8,
 ) -> u32
-    ensures answer { λ r. ⌜ r ≡ packed (step (stateOf processors jobs objects (now («processor_of» .entry)) (now («may_read» .entry)) (now («may_write» .entry))
+    ensures answer { λ r. ⌜ r ≡ packed (step (stateOf (countsOf processors jobs objects) (now («processor_of» .entry)) (now («may_read» .entry)) (now («may_write» .entry))
         (now (active .entry)) (now (unlocked .entry)) (now (readers .entry)) (now (writers .entry)) (now (request .entry))) kind rank object .answer) ⌝ }
-    ensures apart { λ r. ⌜ unpacked r ≡ paper (step (stateOf processors jobs objects (now («processor_of» .entry)) (now («may_read» .entry)) (now («may_write» .entry))
+    ensures apart { λ r. ⌜ unpacked r ≡ paper (step (stateOf (countsOf processors jobs objects) (now («processor_of» .entry)) (now («may_read» .entry)) (now («may_write» .entry))
         (now (active .entry)) (now (unlocked .entry)) (now (readers .entry)) (now (writers .entry)) (now (request .entry))) kind rank object .answer) ⌝ }
-    ensures next { λ _. ⌜ stateOf processors jobs objects (now («processor_of» .entry)) (now («may_read» .entry)) (now («may_write» .entry))
+    ensures next { λ _. ⌜ stateOf (countsOf processors jobs objects) (now («processor_of» .entry)) (now («may_read» .entry)) (now («may_write» .entry))
         (now (active .exit)) (now (unlocked .exit)) (now (readers .exit)) (now (writers .exit)) (now (request .exit))
-        ≡ step (stateOf processors jobs objects (now («processor_of» .entry)) (now («may_read» .entry)) (now («may_write» .entry))
+        ≡ step (stateOf (countsOf processors jobs objects) (now («processor_of» .entry)) (now («may_read» .entry)) (now («may_write» .entry))
         (now (active .entry)) (now (unlocked .entry)) (now (readers .entry)) (now (writers .entry)) (now (request .entry))) kind rank object .state ⌝ }
 {
-    let answer = manager::act(
+    let counts = Counts {
         processors,
         jobs,
         objects,
+    };
+    let answer = manager::act(
+        counts,
         processor_of,
         may_read,
         may_write,

@@ -1,14 +1,16 @@
 // Tables, between lent bytes and the lent parts of a state.
 ghost use mathlib.Core.Path.{_≡_};
-ghost use Rattle.state.specs.State.{stateOf};
+ghost use Rattle.state.specs.State.{countsOf, stateOf};
 ghost use Rattle.table.specs.Reading.{readTable};
 ghost use Rattle.table_writer.specs.Writing.{writeTable, written};
 ghost use Rattle.vongselik.specs.Lending.{stateRead, usedRead};
 ghost use Rattle.basics.specs.Replies.{value};
 use ranks::RankSet;
+use state::Counts;
 use state::JobProcessors;
 use state::JobRequests;
-use state::ObjectSets;
+use state::Sets;
+use state::SetsMut;
 use state::State;
 use table_writer::Written;
 
@@ -21,20 +23,20 @@ pub extern "C" fn vongselik_parts_read_table(
     jobs: &mut u8,
     objects: &mut u8,
     processor_of: &mut JobProcessors,
-    may_read: &mut ObjectSets,
-    may_write: &mut ObjectSets,
+    may_read: SetsMut,
+    may_write: SetsMut,
     active: &mut RankSet,
     unlocked: &mut RankSet,
-    readers: &mut ObjectSets,
-    writers: &mut ObjectSets,
+    readers: SetsMut,
+    writers: SetsMut,
     request: &mut JobRequests,
 ) -> u8
     ensures number { λ r. ⌜ r ≡ readTable (now (bytes .entry)) .refusal ⌝ }
     ensures used { λ _. ⌜ now (used .exit) ≡ usedRead (readTable (now (bytes .entry))) (now (used .entry)) ⌝ }
-    ensures state { λ _. ⌜ stateOf (now (processors .exit)) (now (jobs .exit)) (now (objects .exit)) (now («processor_of» .exit)) (now («may_read» .exit)) (now («may_write» .exit))
+    ensures state { λ _. ⌜ stateOf (countsOf (now (processors .exit)) (now (jobs .exit)) (now (objects .exit))) (now («processor_of» .exit)) (now («may_read» .exit)) (now («may_write» .exit))
         (now (active .exit)) (now (unlocked .exit)) (now (readers .exit)) (now (writers .exit)) (now (request .exit))
         ≡ stateRead (readTable (now (bytes .entry)))
-        (stateOf (now (processors .entry)) (now (jobs .entry)) (now (objects .entry)) (now («processor_of» .entry)) (now («may_read» .entry)) (now («may_write» .entry))
+        (stateOf (countsOf (now (processors .entry)) (now (jobs .entry)) (now (objects .entry))) (now («processor_of» .entry)) (now («may_read» .entry)) (now («may_write» .entry))
         (now (active .entry)) (now (unlocked .entry)) (now (readers .entry)) (now (writers .entry)) (now (request .entry))) ⌝ }
 {
     let read = table::read_table(bytes);
@@ -43,9 +45,10 @@ pub extern "C" fn vongselik_parts_read_table(
     }
     let next = read.state;
     *used = read.used;
-    *processors = next.processors;
-    *jobs = next.jobs;
-    *objects = next.objects;
+    let counts = next.counts;
+    *processors = counts.processors;
+    *jobs = counts.jobs;
+    *objects = counts.objects;
     let next_processor_of = next.processor_of;
     *processor_of = next_processor_of;
     let next_may_read = next.may_read;
@@ -70,27 +73,30 @@ pub extern "C" fn vongselik_parts_write_table<'a>(
     jobs: u8,
     objects: u8,
     processor_of: &'a JobProcessors,
-    may_read: &'a ObjectSets,
-    may_write: &'a ObjectSets,
+    may_read: Sets<'a>,
+    may_write: Sets<'a>,
     active: RankSet,
     unlocked: RankSet,
-    readers: &'a ObjectSets,
-    writers: &'a ObjectSets,
+    readers: Sets<'a>,
+    writers: Sets<'a>,
     request: &'a JobRequests,
     buffer: &mut [u8],
     length: &mut usize,
 ) -> u8
-    ensures number { λ r. ⌜ r ≡ writeTable (stateOf processors jobs objects (now («processor_of» .entry)) (now («may_read» .entry)) (now («may_write» .entry))
+    ensures number { λ r. ⌜ r ≡ writeTable (stateOf (countsOf processors jobs objects) (now («processor_of» .entry)) (now («may_read» .entry)) (now («may_write» .entry))
         active unlocked (now (readers .entry)) (now (writers .entry)) (now (request .entry))) (now (buffer .entry)) .refusal ⌝ }
-    ensures buffer { λ _. ⌜ now (buffer .exit) ≡ written (stateOf processors jobs objects (now («processor_of» .entry)) (now («may_read» .entry)) (now («may_write» .entry))
+    ensures buffer { λ _. ⌜ now (buffer .exit) ≡ written (stateOf (countsOf processors jobs objects) (now («processor_of» .entry)) (now («may_read» .entry)) (now («may_write» .entry))
         active unlocked (now (readers .entry)) (now (writers .entry)) (now (request .entry))) (now (buffer .entry)) ⌝ }
-    ensures length { λ _. ⌜ now (length .exit) ≡ value (writeTable (stateOf processors jobs objects (now («processor_of» .entry)) (now («may_read» .entry)) (now («may_write» .entry))
+    ensures length { λ _. ⌜ now (length .exit) ≡ value (writeTable (stateOf (countsOf processors jobs objects) (now («processor_of» .entry)) (now («may_read» .entry)) (now («may_write» .entry))
         active unlocked (now (readers .entry)) (now (writers .entry)) (now (request .entry))) (now (buffer .entry))) 0 (now (length .entry)) ⌝ }
 {
-    let state = State {
+    let counts = Counts {
         processors,
         jobs,
         objects,
+    };
+    let state = State {
+        counts,
         processor_of: *processor_of,
         may_read: *may_read,
         may_write: *may_write,

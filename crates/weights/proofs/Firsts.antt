@@ -9,11 +9,12 @@ use lib.Dec.{eqb}
 use borrow.Author.Tests.{eqb-true, eq-eqb}
 use Rattle.basics.specs.Choice.{if_then_else_, and-left, and-right}
 use Rattle.basics.specs.Loops.{least, least-top, least-le, le-least}
-use Rattle.ranks.specs.Ranks.{limit, member, without, first, union}
+use Rattle.ranks.specs.Ranks.{member, without, first, union}
 use Rattle.ranks.specs.RankLaws.{first-least, first-member, first-pos, first-le, first-some, member-empty, without-empty}
 use Rattle.ranks.specs.UnionLaws.{empty-union}
+use Rattle.state.specs.State.{mostJobs}
 use Rattle.weights.specs.Weights.{ceilingOf, moreUrgent}
-use Rattle.weights.specs.Keys.{lockKey, noKey}
+use Rattle.weights.specs.Keys.{lockKey, noKey, no-key-above}
 use Rattle.weights.specs.ObjectKeys.{readerKey, writerKey, objectKeyOf}
 
 module _ (k top set : ℕ) (f : ℕ → ℕ) where
@@ -39,30 +40,33 @@ module _ (k top set : ℕ) (f : ℕ → ℕ) where
       from r false m = below (first k set) l
 
 module _ (o : ℕ) (h : o < 256) where
-  pub reader-key-first : (readers mayWrite : ℕ) → 0 < readers → readers < 2 ^ limit
-      → readerKey readers mayWrite o ≡ lockKey (moreUrgent (ceilingOf mayWrite) (first limit readers)) (first limit readers) o
+  pub reader-key-first : (readers mayWrite : ℕ) → 0 < readers → readers < 2 ^ mostJobs
+      → readerKey readers mayWrite o ≡ lockKey (moreUrgent (ceilingOf mayWrite) (first mostJobs readers)) (first mostJobs readers) o
   unfolding readerKey
   reader-key-first readers mayWrite p b =
-      least-first limit noKey readers (λ r. lockKey (moreUrgent (ceilingOf mayWrite) r) r o)
-      (λ q r l. omega arith) (λ r l. omega arith) (first-some limit readers p b)
+      least-first mostJobs noKey readers (λ r. lockKey (moreUrgent (ceilingOf mayWrite) r) r o)
+      (λ q r l. omega arith)
+      (λ r l. omega (arith, no-key-above (moreUrgent (ceilingOf mayWrite) r) r o (omega arith) (omega arith) h)) (first-some mostJobs readers p b)
 
-  pub writer-key-first : (writers mayRead mayWrite : ℕ) → 0 < writers → writers < 2 ^ limit
-      → writerKey writers mayRead mayWrite o ≡ lockKey (ceilingOf (union mayRead mayWrite)) (first limit writers) o
+  pub writer-key-first : (writers mayRead mayWrite : ℕ) → 0 < writers → writers < 2 ^ mostJobs
+      → writerKey writers mayRead mayWrite o ≡ lockKey (ceilingOf (union mayRead mayWrite)) (first mostJobs writers) o
   unfolding writerKey
   writer-key-first writers mayRead mayWrite p b =
-      least-first limit noKey writers (λ r. lockKey (ceilingOf (union mayRead mayWrite)) r o)
-      (λ q r l. omega arith) (λ r l. omega (arith, first-le limit (union mayRead mayWrite))) (first-some limit writers p b)
+      least-first mostJobs noKey writers (λ r. lockKey (ceilingOf (union mayRead mayWrite)) r o)
+      (λ q r l. omega arith)
+      (λ r l. omega (arith, no-key-above (ceilingOf (union mayRead mayWrite)) r o (omega (arith, first-le mostJobs (union mayRead mayWrite))) (omega arith) h))
+      (first-some mostJobs writers p b)
 
 -- no lock, no key
 pub reader-key-none : (readers mayWrite o : ℕ) → readers ≡ 0 → readerKey readers mayWrite o ≡ noKey
 unfolding readerKey
 reader-key-none readers mayWrite o e =
-    least-empty limit noKey readers (λ r. lockKey (moreUrgent (ceilingOf mayWrite) r) r o) (λ r. ap (λ (set : ℕ). member set r) e ∙ member-empty r)
+    least-empty mostJobs noKey readers (λ r. lockKey (moreUrgent (ceilingOf mayWrite) r) r o) (λ r. ap (λ (set : ℕ). member set r) e ∙ member-empty r)
 
 pub writer-key-none : (writers mayRead mayWrite o : ℕ) → writers ≡ 0 → writerKey writers mayRead mayWrite o ≡ noKey
 unfolding writerKey
 writer-key-none writers mayRead mayWrite o e =
-    least-empty limit noKey writers (λ r. lockKey (ceilingOf (union mayRead mayWrite)) r o) (λ r. ap (λ (set : ℕ). member set r) e ∙ member-empty r)
+    least-empty mostJobs noKey writers (λ r. lockKey (ceilingOf (union mayRead mayWrite)) r o) (λ r. ap (λ (set : ℕ). member set r) e ∙ member-empty r)
 
 pub object-key-none : (readers writers mayRead mayWrite o j : ℕ) → union readers writers ≡ 0 → objectKeyOf readers writers mayRead mayWrite o j ≡ noKey
 unfolding objectKeyOf

@@ -12,17 +12,17 @@ use lib.Dec.{eqb}
 use borrow.Author.Tests.{eqb-false, ne-eqb}
 use Rattle.basics.specs.Choice.{if_then_else_}
 use Rattle.basics.specs.Loops.{least, least-top, least-le, least-at}
-use Rattle.ranks.specs.Ranks.{limit}
 use Rattle.state.specs.declared.State.{State}
-use Rattle.state.specs.State.{mostObjects, read, write, holds}
+use Rattle.state.specs.State.{mostJobs, mostObjects, read, write, holds}
+use Rattle.state.specs.Modes.{Mode}
 use Rattle.weights.specs.Keys.{lockKey, noKey, keyHolder, keyObject, Weigh, othersKey, objectKey, lowestKeyBy}
 
 -- r, another job than j, holds a lock on o in mode m
 pub record OthersLock (s : State) (j m r o : ℕ) : Type 0 where
-  pub mode : (m ≡ read) ⊎ (m ≡ write)
+  pub mode : Mode m
   pub other : r ≢ j
-  pub rank : (1 ≤ r) × (r ≤ limit)
-  pub object : (1 ≤ o) × (o ≤ s .objects)
+  pub rank : (1 ≤ r) × (r ≤ mostJobs)
+  pub object : (1 ≤ o) × (o ≤ s .counts .objects)
   pub held : holds s m r o ≡ true
 
 module _ (weigh : Weigh) (s : State) (j : ℕ) where
@@ -30,9 +30,9 @@ module _ (weigh : Weigh) (s : State) (j : ℕ) where
   both : ℕ → ℕ → ℕ
   both o r = min (othersKey weigh s j o read r) (othersKey weigh s j o write r)
 
-  lowest-both : (o r : ℕ) → 1 ≤ o → o ≤ s .objects → 1 ≤ r → r ≤ limit → lowestKeyBy weigh s j ≤ both o r
+  lowest-both : (o r : ℕ) → 1 ≤ o → o ≤ s .counts .objects → 1 ≤ r → r ≤ mostJobs → lowestKeyBy weigh s j ≤ both o r
   unfolding both lowestKeyBy objectKey
-  lowest-both o r a b p q = le-trans (least-le (s .objects) noKey (objectKey weigh s j) o a b) (least-le limit noKey (both o) r p q)
+  lowest-both o r a b p q = le-trans (least-le (s .counts .objects) noKey (objectKey weigh s j) o a b) (least-le mostJobs noKey (both o) r p q)
 
   others-held : (m r o : ℕ) → r ≢ j → holds s m r o ≡ true → othersKey weigh s j o m r ≡ lockKey (weigh m r o) r o
   unfolding othersKey
@@ -46,13 +46,13 @@ module _ (weigh : Weigh) (s : State) (j : ℕ) where
       low : lowestKeyBy weigh s j ≤ both o r
       low = lowest-both o r (l .object .0) (l .object .1) (l .rank .0) (l .rank .1)
 
-      go : (m : ℕ) → (m ≡ read) ⊎ (m ≡ write) → othersKey weigh s j o m r ≡ lockKey (weigh m r o) r o → lowestKeyBy weigh s j ≤ lockKey (weigh m r o) r o
+      go : (m : ℕ) → Mode m → othersKey weigh s j o m r ≡ lockKey (weigh m r o) r o → lowestKeyBy weigh s j ≤ lockKey (weigh m r o) r o
       go m (inl e) k = omega (arith, low, ap (λ (n : ℕ). othersKey weigh s j o n r) e)
       go m (inr e) k = omega (arith, low, ap (λ (n : ℕ). othersKey weigh s j o n r) e)
 
   pub key-top : lowestKeyBy weigh s j ≤ noKey
   unfolding lowestKeyBy
-  key-top = least-top (s .objects) noKey (objectKey weigh s j)
+  key-top = least-top (s .counts .objects) noKey (objectKey weigh s j)
 
   -- k is the key of a lock that another job holds
   pub record KeyOfOther (k : ℕ) : Type 0 where
@@ -62,7 +62,7 @@ module _ (weigh : Weigh) (s : State) (j : ℕ) where
     pub lock : OthersLock s j mode holder object
     pub is : k ≡ lockKey (weigh mode holder object) holder object
 
-  others-at : (m r o : ℕ) → (m ≡ read) ⊎ (m ≡ write) → (1 ≤ r) × (r ≤ limit) → (1 ≤ o) × (o ≤ s .objects)
+  others-at : (m r o : ℕ) → Mode m → (1 ≤ r) × (r ≤ mostJobs) → (1 ≤ o) × (o ≤ s .counts .objects)
       → (othersKey weigh s j o m r ≡ noKey) ⊎ KeyOfOther (othersKey weigh s j o m r)
   unfolding othersKey
   others-at m r o mode rank object = go (eqb r j) refl (holds s m r o) refl
@@ -89,16 +89,16 @@ module _ (weigh : Weigh) (s : State) (j : ℕ) where
     | no h ↦ same-key (omega arith) b
   ]
 
-  object-at : (o : ℕ) → (1 ≤ o) × (o ≤ s .objects) → (objectKey weigh s j o ≡ noKey) ⊎ KeyOfOther (objectKey weigh s j o)
+  object-at : (o : ℕ) → (1 ≤ o) × (o ≤ s .counts .objects) → (objectKey weigh s j o ≡ noKey) ⊎ KeyOfOther (objectKey weigh s j o)
   unfolding objectKey both
-  object-at o object = go (least-at limit noKey (both o))
+  object-at o object = go (least-at mostJobs noKey (both o))
     where
-      go : (least limit noKey (both o) ≡ noKey) ⊎ ((r : ℕ) × (1 ≤ r) × (r ≤ limit) × (least limit noKey (both o) ≡ both o r))
-          → (least limit noKey (both o) ≡ noKey) ⊎ KeyOfOther (least limit noKey (both o))
+      go : (least mostJobs noKey (both o) ≡ noKey) ⊎ ((r : ℕ) × (1 ≤ r) × (r ≤ mostJobs) × (least mostJobs noKey (both o) ≡ both o r))
+          → (least mostJobs noKey (both o) ≡ noKey) ⊎ KeyOfOther (least mostJobs noKey (both o))
       go (inl z) = inl z
       go (inr w) =
           let r = w .0 in
-          let rank : (1 ≤ r) × (r ≤ limit) = (w .1, w .2) in
+          let rank : (1 ≤ r) × (r ≤ mostJobs) = (w .1, w .2) in
           same-key (w .3)
           (lesser-key (othersKey weigh s j o read r) (othersKey weigh s j o write r)
           (others-at read r o (inl refl) rank object) (others-at write r o (inr refl) rank object))
@@ -106,12 +106,12 @@ module _ (weigh : Weigh) (s : State) (j : ℕ) where
   -- it is none's, or the key of a lock that another job holds
   pub key-at : (lowestKeyBy weigh s j ≡ noKey) ⊎ KeyOfOther (lowestKeyBy weigh s j)
   unfolding lowestKeyBy
-  key-at = go (least-at (s .objects) noKey (objectKey weigh s j))
+  key-at = go (least-at (s .counts .objects) noKey (objectKey weigh s j))
     where
       lowest : ℕ
-      lowest = least (s .objects) noKey (objectKey weigh s j)
+      lowest = least (s .counts .objects) noKey (objectKey weigh s j)
 
-      go : (lowest ≡ noKey) ⊎ ((o : ℕ) × (1 ≤ o) × (o ≤ s .objects) × (lowest ≡ objectKey weigh s j o))
+      go : (lowest ≡ noKey) ⊎ ((o : ℕ) × (1 ≤ o) × (o ≤ s .counts .objects) × (lowest ≡ objectKey weigh s j o))
           → (lowest ≡ noKey) ⊎ KeyOfOther lowest
       go (inl z) = inl z
       go (inr w) = same-key (w .3) (object-at (w .0) (w .1, w .2))
@@ -125,13 +125,13 @@ module _ (weigh : Weigh) (s : State) (j : ℕ) where
       go (inr w) = omega (arith, w .is, each (w .mode) (w .holder) (w .object) (w .lock))
 
   -- a key below noKey is of a rank and an object of the state, which a function may then look up
-  pub key-in-range : s .objects ≤ mostObjects → lowestKeyBy weigh s j < noKey
-      → ((1 ≤ keyHolder (lowestKeyBy weigh s j)) × (keyHolder (lowestKeyBy weigh s j) ≤ limit))
-      × ((1 ≤ keyObject (lowestKeyBy weigh s j)) × (keyObject (lowestKeyBy weigh s j) ≤ s .objects))
+  pub key-in-range : s .counts .objects ≤ mostObjects → lowestKeyBy weigh s j < noKey
+      → ((1 ≤ keyHolder (lowestKeyBy weigh s j)) × (keyHolder (lowestKeyBy weigh s j) ≤ mostJobs))
+      × ((1 ≤ keyObject (lowestKeyBy weigh s j)) × (keyObject (lowestKeyBy weigh s j) ≤ s .counts .objects))
   key-in-range few below = go (lowestKeyBy weigh s j) below key-at
     where
       go : (k : ℕ) → k < noKey → (k ≡ noKey) ⊎ KeyOfOther k
-          → ((1 ≤ keyHolder k) × (keyHolder k ≤ limit)) × ((1 ≤ keyObject k) × (keyObject k ≤ s .objects))
+          → ((1 ≤ keyHolder k) × (keyHolder k ≤ mostJobs)) × ((1 ≤ keyObject k) × (keyObject k ≤ s .counts .objects))
       go k l (inl z) = absurd (omega arith)
       go k l (inr w) =
           let rank = w .lock .rank in

@@ -1,22 +1,29 @@
 -- The key of a lock: weight, then holder, then object, as one number, so that the lock with the most urgent weight,
 -- "ties going to the lowest rank number and then the lowest object number", is the one with the lowest key.
 -- Assumes nothing.
-use Prim.Native.Nat.{ℕ, _+_, _*_, _/_, _%_, min}
+use Prim.Native.Nat.{ℕ, _+_, _*_, _/_, _%_, _<_, min}
+use native.Mathlib.Omega.{arith}
 use mathlib.Core.Bool.{not, _&&_}
 use lib.Dec.{eqb}
 use Rattle.basics.specs.Choice.{if_then_else_}
 use Rattle.basics.specs.Loops.{least}
-use Rattle.ranks.specs.Ranks.{limit}
 use Rattle.state.specs.declared.State.{State}
-use Rattle.state.specs.State.{read, write, holds}
+use Rattle.state.specs.State.{mostJobs, read, write, holds}
 use Rattle.weights.specs.Weights.{weight, oldWeight}
 
 abbrev pub lockKey : ℕ → ℕ → ℕ → ℕ
 lockKey weighs holder object = weighs * 65536 + holder * 256 + object
 
--- above the key of every lock: a weight past every rank, of nobody, on no object
+-- above every weight: a lock weighs a rank or, where nobody is declared, one past the last rank, which is 256 for 255 jobs
+abbrev pub noWeight : ℕ
+noWeight = 257
+
+-- above the key of every lock, by its weight (no-key-above)
 abbrev pub noKey : ℕ
-noKey = lockKey 256 0 0
+noKey = lockKey noWeight 0 0
+
+pub no-key-above : (weighs holder object : ℕ) → weighs < noWeight → holder < 256 → object < 256 → lockKey weighs holder object < noKey
+no-key-above weighs holder object w h o = omega arith
 
 abbrev pub keyWeight : ℕ → ℕ
 keyWeight k = k / 65536
@@ -37,11 +44,11 @@ othersKey weigh s j o m r = if not (eqb r j) && holds s m r o then lockKey (weig
 
 -- "Each lock is weighed by itself": the lowest key among the locks that others than j hold on o
 unfoldable pub objectKey : Weigh → State → ℕ → ℕ → ℕ
-objectKey weigh s j o = least limit noKey (λ r. min (othersKey weigh s j o read r) (othersKey weigh s j o write r))
+objectKey weigh s j o = least mostJobs noKey (λ r. min (othersKey weigh s j o read r) (othersKey weigh s j o write r))
 
 -- the lowest key among the locks that others than j hold
 unfoldable pub lowestKeyBy : Weigh → State → ℕ → ℕ
-lowestKeyBy weigh s j = least (s .objects) noKey (objectKey weigh s j)
+lowestKeyBy weigh s j = least (s .counts .objects) noKey (objectKey weigh s j)
 
 abbrev pub lowestKey : State → ℕ → ℕ
 lowestKey s j = lowestKeyBy (weight s) s j

@@ -9,10 +9,10 @@ use lib.Dec.{eqb}
 use borrow.Author.Tests.{eqb-true, eqb-false}
 use Rattle.basics.specs.Choice.{if_then_else_}
 use Rattle.basics.specs.Loops.{least, least-same}
-use Rattle.ranks.specs.Ranks.{limit, member, without, union}
+use Rattle.ranks.specs.Ranks.{member, without, union}
 use Rattle.ranks.specs.RankLaws.{member-without-same, member-without-other}
 use Rattle.state.specs.declared.State.{State}
-use Rattle.state.specs.State.{read, write, holders, declared}
+use Rattle.state.specs.State.{mostJobs, read, write, holders, declared}
 use Rattle.weights.specs.Weights.{ceilingOf, moreUrgent, weight}
 use Rattle.weights.specs.Keys.{lockKey, noKey, othersKey, objectKey}
 
@@ -22,11 +22,11 @@ heldKey holders weighs o r = if member holders r then lockKey weighs r o else no
 
 -- the lowest key among the read locks on o
 unfoldable pub readerKey : ℕ → ℕ → ℕ → ℕ
-readerKey readers mayWrite o = least limit noKey (λ r. heldKey readers (moreUrgent (ceilingOf mayWrite) r) o r)
+readerKey readers mayWrite o = least mostJobs noKey (λ r. heldKey readers (moreUrgent (ceilingOf mayWrite) r) o r)
 
 -- the lowest key among the write locks on o
 unfoldable pub writerKey : ℕ → ℕ → ℕ → ℕ → ℕ
-writerKey writers mayRead mayWrite o = least limit noKey (heldKey writers (ceilingOf (union mayRead mayWrite)) o)
+writerKey writers mayRead mayWrite o = least mostJobs noKey (heldKey writers (ceilingOf (union mayRead mayWrite)) o)
 
 -- the lowest key among the locks that others than j hold on o: "Own locks don't count."
 unfoldable pub objectKeyOf : ℕ → ℕ → ℕ → ℕ → ℕ → ℕ → ℕ
@@ -57,8 +57,8 @@ object-key-sets s j o =
     let absolute = ceilingOf (union (declared s read o) (declared s write o)) in
     let readKey : ℕ → ℕ = (λ r. heldKey (without (holders s read o) j) (moreUrgent ceiling r) o r) in
     let writeKey : ℕ → ℕ = heldKey (without (holders s write o) j) absolute o in
-    least-same limit noKey _ (λ r. min (readKey r) (writeKey r))
+    least-same mostJobs noKey _ (λ r. min (readKey r) (writeKey r))
     (λ r a b. ap₂ min
     (others-without (holders s read o) j r (lockKey (moreUrgent ceiling r) r o))
     (others-without (holders s write o) j r (lockKey absolute r o)))
-    ∙ least-min limit noKey readKey writeKey
+    ∙ least-min mostJobs noKey readKey writeKey

@@ -5,19 +5,20 @@ use mathlib.Core.List.{List, []}
 use Prim.Native.Nat.{ℕ}
 use Rattle.basics.specs.Arrays.{at}
 use Rattle.basics.specs.Loops.{least, least-same}
+use Rattle.state.specs.declared.Counts.{Counts}
 use Rattle.state.specs.declared.State.{State}
 use Rattle.state.specs.State.{stateOf}
 use Rattle.weights.specs.Weights.{weight}
 use Rattle.weights.specs.Keys.{noKey, othersKey, objectKey, lowestKey, lowestKeyBy}
 use Rattle.weights.specs.ObjectKeys.{objectKeyOf, object-key-sets}
 
--- a state with these declarations and locks on so many objects
-abbrev pub locksState : ℕ → List ℕ → List ℕ → List ℕ → List ℕ → State
-locksState objects mayRead mayWrite readers writers = stateOf 0 0 objects [] mayRead mayWrite 0 0 readers writers []
+-- a state with these counts, declarations and locks
+abbrev pub locksState : Counts → List ℕ → List ℕ → List ℕ → List ℕ → State
+locksState counts mayRead mayWrite readers writers = stateOf counts [] mayRead mayWrite 0 0 readers writers []
 
 -- a state's part
 abbrev pub locksOf : State → State
-locksOf s = locksState (s .objects) (s .«may_read») (s .«may_write») (s .readers) (s .writers)
+locksOf s = locksState (s .counts) (s .«may_read») (s .«may_write») (s .readers) (s .writers)
 
 -- the lowest key among the locks that others than j hold on o, by the arrays of the objects' sets
 unfoldable pub keyAt : List ℕ → List ℕ → List ℕ → List ℕ → ℕ → ℕ → ℕ
@@ -29,9 +30,9 @@ unfolding lowestKeyBy objectKey othersKey weight
 lowest-key-parts s j = refl
 
 -- one object more
-pub lowest-key-at : (objects : ℕ) (mayRead mayWrite readers writers : List ℕ) (j : ℕ)
-    → lowestKey (locksState objects mayRead mayWrite readers writers) j ≡ least objects noKey (keyAt mayRead mayWrite readers writers j)
+pub lowest-key-at : (counts : Counts) (mayRead mayWrite readers writers : List ℕ) (j : ℕ)
+    → lowestKey (locksState counts mayRead mayWrite readers writers) j ≡ least (counts .objects) noKey (keyAt mayRead mayWrite readers writers j)
 unfolding lowestKeyBy keyAt
-lowest-key-at objects mayRead mayWrite readers writers j =
-    least-same objects noKey _ (keyAt mayRead mayWrite readers writers j)
-    (λ o a b. object-key-sets (locksState objects mayRead mayWrite readers writers) j o)
+lowest-key-at counts mayRead mayWrite readers writers j =
+    least-same (counts .objects) noKey _ (keyAt mayRead mayWrite readers writers j)
+    (λ o a b. object-key-sets (locksState counts mayRead mayWrite readers writers) j o)

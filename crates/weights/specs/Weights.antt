@@ -1,13 +1,13 @@
 -- Ceilings, and what a lock weighs (01, "Ceilings").
 -- Assumes nothing.
 use Prim.Native.Nat.{ℕ, min}
-use Rattle.ranks.specs.Ranks.{limit, first}
+use Rattle.ranks.specs.Ranks.{first}
 use Rattle.state.specs.declared.State.{State}
-use Rattle.state.specs.State.{write, ofMode, declared, declaredAny}
+use Rattle.state.specs.State.{mostJobs, write, ofMode, declared, declaredAny}
 
 -- the most urgent rank of a set, "65 means nobody": the one definition of nobody
 abbrev pub ceilingOf : ℕ → ℕ
-ceilingOf ranks = first limit ranks
+ceilingOf ranks = first mostJobs ranks
 
 -- "The write ceiling of an object is the most urgent rank declared to write it"
 abbrev pub writeCeiling : State → ℕ → ℕ

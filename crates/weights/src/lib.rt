@@ -2,17 +2,17 @@
 // A function sees the parts of a state that it asks about: an object's sets of ranks by value, an object's array by reference.
 ghost use mathlib.Core.Path.{_≡_};
 ghost use Prim.Native.Nat.{_≤_, min};
-ghost use Rattle.ranks.specs.Ranks.{limit};
-ghost use Rattle.state.specs.State.{mostObjects};
+ghost use Rattle.state.specs.State.{mostJobs, mostObjects};
 ghost use Rattle.weights.specs.Weights as W;
 ghost use Rattle.weights.specs.Keys as K;
 ghost use Rattle.weights.specs.ObjectKeys as O;
 ghost use Rattle.weights.specs.Parts as P;
 use ranks::RankSet;
-use state::ObjectSets;
+use state::Counts;
+use state::Sets;
 
-// The key of no lock: above the key of every lock.
-pub const NO_KEY: u64 = 0x100_0000;
+// The key of no lock: above that of every lock, since its weight is above every weight.
+pub const NO_KEY: u64 = 257 * 65536;
 
 // The more urgent of two ranks or ceilings.
 pub fn more_urgent(a: u16, b: u16) -> u16
@@ -60,7 +60,7 @@ pub fn key_object(key: u64) -> u8
 fn reader_key(readers: RankSet, may_write: RankSet, object: u8) -> u64
     ensures { λ r. ⌜ r ≡ O.readerKey readers «may_write» object ⌝ }
 {
-    if readers == 0 {
+    if ranks::is_empty(readers) {
         return NO_KEY;
     }
     let reader = ranks::first(readers);
@@ -72,10 +72,14 @@ fn reader_key(readers: RankSet, may_write: RankSet, object: u8) -> u64
 fn writer_key(writers: RankSet, may_read: RankSet, may_write: RankSet, object: u8) -> u64
     ensures { λ r. ⌜ r ≡ O.writerKey writers «may_read» «may_write» object ⌝ }
 {
-    if writers == 0 {
+    if ranks::is_empty(writers) {
         return NO_KEY;
     }
-    lock_key(ceiling(may_read | may_write), ranks::first(writers), object)
+    lock_key(
+        ceiling(ranks::union(may_read, may_write)),
+        ranks::first(writers),
+        object,
+    )
 }
 
 // The lowest key among the locks that others than the rank hold on the object.
@@ -87,10 +91,10 @@ pub fn object_key(
     object: u8,
     rank: u8,
 ) -> u64
-    requires { ⌜ (1 ≤ rank) × (rank ≤ limit) ⌝ }
+    requires { ⌜ (1 ≤ rank) × (rank ≤ mostJobs) ⌝ }
     ensures { λ r. ⌜ r ≡ O.objectKeyOf readers writers «may_read» «may_write» object rank ⌝ }
 {
-    if (readers | writers) == 0 {
+    if ranks::is_empty(ranks::union(readers, writers)) {
         return NO_KEY;
     }
     lower(
@@ -101,14 +105,14 @@ pub fn object_key(
 
 // The same of an object by its number.
 pub fn key_at<'a>(
-    may_read: &'a ObjectSets,
-    may_write: &'a ObjectSets,
-    readers: &'a ObjectSets,
-    writers: &'a ObjectSets,
+    may_read: Sets<'a>,
+    may_write: Sets<'a>,
+    readers: Sets<'a>,
+    writers: Sets<'a>,
     object: u8,
     rank: u8,
 ) -> u64
-    requires { ⌜ (1 ≤ object) × (object ≤ mostObjects) × (1 ≤ rank) × (rank ≤ limit) ⌝ }
+    requires { ⌜ (1 ≤ object) × (object ≤ mostObjects) × (1 ≤ rank) × (rank ≤ mostJobs) ⌝ }
     ensures { λ r. ⌜ r ≡ P.keyAt (now («may_read» .entry)) (now («may_write» .entry)) (now (readers .entry)) (now (writers .entry)) rank object ⌝ }
 {
     let i = (object - 1) as usize;
@@ -124,16 +128,17 @@ pub fn key_at<'a>(
 
 // The lowest key among the locks that others than the rank hold.
 pub fn lowest_key<'a>(
-    objects: u8,
-    may_read: &'a ObjectSets,
-    may_write: &'a ObjectSets,
-    readers: &'a ObjectSets,
-    writers: &'a ObjectSets,
+    counts: Counts,
+    may_read: Sets<'a>,
+    may_write: Sets<'a>,
+    readers: Sets<'a>,
+    writers: Sets<'a>,
     rank: u8,
 ) -> u64
-    requires { ⌜ (objects ≤ mostObjects) × (1 ≤ rank) × (rank ≤ limit) ⌝ }
-    ensures { λ r. ⌜ r ≡ K.lowestKey (P.locksState objects (now («may_read» .entry)) (now («may_write» .entry)) (now (readers .entry)) (now (writers .entry))) rank ⌝ }
+    requires { ⌜ (counts .objects ≤ mostObjects) × (1 ≤ rank) × (rank ≤ mostJobs) ⌝ }
+    ensures { λ r. ⌜ r ≡ K.lowestKey (P.locksState counts (now («may_read» .entry)) (now («may_write» .entry)) (now (readers .entry)) (now (writers .entry))) rank ⌝ }
 {
+    let objects = counts.objects;
     let mut lowest = NO_KEY;
     let mut done: u8 = 0;
     while done < objects {

@@ -6,9 +6,8 @@ use mathlib.Core.List.{List, []}
 use Prim.Native.Nat.{ℕ, _≤_}
 use native.Mathlib.Omega.{arith}
 use Rattle.basics.specs.Choice.{between-true, inside-between}
-use Rattle.ranks.specs.Ranks.{limit}
 use Rattle.state.specs.declared.State.{State}
-use Rattle.state.specs.State.{mostObjects, stateOf}
+use Rattle.state.specs.State.{mostJobs, mostObjects, stateOf}
 use Rattle.refusals.specs.Accepting.{accepted-numbers}
 use Rattle.refusals.specs.Refusals.{eventRefusal}
 use Rattle.events.specs.Events as E
@@ -18,16 +17,16 @@ use Rattle.events.proofs.lock.Statement.{statement}
 use Rattle.events.proofs.lock.Tie as tie
 
 -- the state that the parts are of, with any other parts
-abbrev whole : (c : tie.Start) → ℕ → List ℕ → State
-whole c p ps = let a = c .args in
-    stateOf p (a .jobs) (a .objects) ps (now (a .may-read)) (now (a .may-write)) (a .active) (a .unlocked) (now (a .readers)) (now (a .writers)) (now (a .request))
+abbrev whole : (c : tie.Start) → List ℕ → State
+whole c ps = let a = c .args in
+    stateOf (a .counts) ps (now (a .may-read)) (now (a .may-write)) (a .active) (a .unlocked) (now (a .readers)) (now (a .writers)) (now (a .request))
 
 -- what is known behind the refusals: rank and object are some that the arrays have
-numbers : (c : tie.Start) → eventRefusal (whole c 0 []) (c .args .kind) (c .args .rank) (c .args .object) ≡ 0
-    → (1 ≤ c .args .rank) × (c .args .rank ≤ limit) × (1 ≤ c .args .object) × (c .args .object ≤ mostObjects)
+numbers : (c : tie.Start) → eventRefusal (whole c []) (c .args .kind) (c .args .rank) (c .args .object) ≡ 0
+    → (1 ≤ c .args .rank) × (c .args .rank ≤ mostJobs) × (1 ≤ c .args .object) × (c .args .object ≤ mostObjects)
 numbers c e =
-    let n = accepted-numbers (whole c 0 []) (c .args .kind) (c .args .rank) (c .args .object) e in
-    let o = between-true 1 (c .args .objects) (c .args .object) (simp (inside-between 2 3 (c .args .kind) (c .pre .2) (c .pre .3)) at (n .2)) in
+    let n = accepted-numbers (whole c []) (c .args .kind) (c .args .rank) (c .args .object) e in
+    let o = between-true 1 (c .args .counts .objects) (c .args .object) (simp (inside-between 2 3 (c .args .kind) (c .pre .2) (c .pre .3)) at (n .2)) in
     (n .0, omega (arith, n .1, c .pre), o .0, omega (arith, o .1, c .pre))
 
 lock-refusal-requires : tie.Need-lock-refusal-requires
@@ -36,7 +35,7 @@ lock-refusal-requires c κs = search needs
 returns : tie.Need-returns
 returns c =
     let a = c .before .before .before .before .before .args in
-    λ p ps. L.perform-refused (whole ((c .before .before .before .before .before)) p ps) (a .kind) (a .rank) (a .object) (c .before .lock-refusal .result) (c .before .lock-refusal .ensures p ps) (c .if1 .taken)
+    λ ps. L.perform-refused (whole ((c .before .before .before .before .before)) ps) (a .kind) (a .rank) (a .object) (c .before .lock-refusal .result) (c .before .lock-refusal .ensures ps) (c .if1 .taken)
 
 sub-grant-or-wait : tie.Need-sub-grant-or-wait
 sub-grant-or-wait c = search needs
@@ -44,16 +43,16 @@ sub-grant-or-wait c = search needs
 grant-or-wait-requires : tie.Need-grant-or-wait-requires
 grant-or-wait-requires c κs =
     let P = c .before .before .before .before .before .before .before .before .pre in
-    let n = numbers ((c .before .before .before .before .before .before .before .before)) (sym (c .before .before .before .before .lock-refusal .ensures 0 []) ∙ c .before .before .before .if1 .left) in
+    let n = numbers ((c .before .before .before .before .before .before .before .before)) (sym (c .before .before .before .before .lock-refusal .ensures []) ∙ c .before .before .before .if1 .left) in
     (P .1, omega (arith, P .3), n .0, n .1, n .2, n .3)
 
 returns-2 : tie.Need-returns-2
 returns-2 c =
     let a = c .before .before .before .before .before .before .before .before .before .args in
-    λ p ps.
-    let s = whole ((c .before .before .before .before .before .before .before .before .before)) p ps in
-    c .grant-or-wait .ensures p (a .jobs) (a .active) (a .unlocked) ps
-    ∙ sym (L.perform-accepted s (a .kind) (a .rank) (a .object) (sym (c .before .before .before .before .before .lock-refusal .ensures p ps) ∙ c .before .before .before .before .if1 .left) ∙ L.accepted-lock s (a .kind) (a .rank) (a .object) (c .before .before .before .before .before .before .before .before .before .pre .2) (c .before .before .before .before .before .before .before .before .before .pre .3))
+    λ ps.
+    let s = whole ((c .before .before .before .before .before .before .before .before .before)) ps in
+    c .grant-or-wait .ensures (a .active) (a .unlocked) ps
+    ∙ sym (L.perform-accepted s (a .kind) (a .rank) (a .object) (sym (c .before .before .before .before .before .lock-refusal .ensures ps) ∙ c .before .before .before .before .if1 .left) ∙ L.accepted-lock s (a .kind) (a .rank) (a .object) (c .before .before .before .before .before .before .before .before .before .pre .2) (c .before .before .before .before .before .before .before .before .before .pre .3))
 
 pub lock-spec : {M : Type 1} → statement M
 lock-spec =

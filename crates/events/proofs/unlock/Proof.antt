@@ -6,9 +6,8 @@ use mathlib.Core.List.{List, []}
 use Prim.Native.Nat.{ℕ, _≤_}
 use native.Mathlib.Omega.{arith}
 use Rattle.basics.specs.Choice.{between-true}
-use Rattle.ranks.specs.Ranks.{limit}
 use Rattle.state.specs.declared.State.{State}
-use Rattle.state.specs.State.{mostObjects, stateOf, release}
+use Rattle.state.specs.State.{mostJobs, mostObjects, stateOf, release}
 use Rattle.refusals.specs.Accepting.{accepted-numbers}
 use Rattle.refusals.specs.Refusals.{eventRefusal}
 use Rattle.events.specs.Events as E
@@ -18,24 +17,24 @@ use Rattle.events.proofs.unlock.Statement.{statement}
 use Rattle.events.proofs.unlock.Tie as tie
 
 -- the state that the parts are of, with any other parts
-abbrev whole : (c : tie.Start) → ℕ → List ℕ → State
-whole c p ps = let a = c .args in
-    stateOf p (a .jobs) (a .objects) ps (now (a .may-read)) (now (a .may-write)) (a .active) (now (a .unlocked)) (now (a .readers)) (now (a .writers)) (now (a .request))
+abbrev whole : (c : tie.Start) → List ℕ → State
+whole c ps = let a = c .args in
+    stateOf (a .counts) ps (now (a .may-read)) (now (a .may-write)) (a .active) (now (a .unlocked)) (now (a .readers)) (now (a .writers)) (now (a .request))
 
 -- what is known behind the refusals: rank and object are some that the arrays have
-numbers : (c : tie.Start) → eventRefusal (whole c 0 []) 4 (c .args .rank) (c .args .object) ≡ 0
-    → (1 ≤ c .args .rank) × (c .args .rank ≤ limit) × (1 ≤ c .args .object) × (c .args .object ≤ mostObjects)
+numbers : (c : tie.Start) → eventRefusal (whole c []) 4 (c .args .rank) (c .args .object) ≡ 0
+    → (1 ≤ c .args .rank) × (c .args .rank ≤ mostJobs) × (1 ≤ c .args .object) × (c .args .object ≤ mostObjects)
 numbers c e =
-    let n = accepted-numbers (whole c 0 []) 4 (c .args .rank) (c .args .object) e in
-    let o = between-true 1 (c .args .objects) (c .args .object) (n .2) in
+    let n = accepted-numbers (whole c []) 4 (c .args .rank) (c .args .object) e in
+    let o = between-true 1 (c .args .counts .objects) (c .args .object) (n .2) in
     (n .0, omega (arith, n .1, c .pre .jobs-fit), o .0, omega (arith, o .1, c .pre .objects-fit))
 
 -- what the number says where it is none
 accepted : (c : tie.Start) (n : ℕ)
-    → ((p u : ℕ) (ps mr mw : List ℕ)
-    → n ≡ eventRefusal (stateOf p (c .args .jobs) (c .args .objects) ps mr mw (c .args .active) u (now (c .args .readers)) (now (c .args .writers)) (now (c .args .request))) 4 (c .args .rank) (c .args .object))
-    → n ≡ 0 → (p : ℕ) (ps : List ℕ) → eventRefusal (whole c p ps) 4 (c .args .rank) (c .args .object) ≡ 0
-accepted c n e z p ps = sym (e p (now (c .args .unlocked)) ps (now (c .args .may-read)) (now (c .args .may-write))) ∙ z
+    → ((u : ℕ) (ps mr mw : List ℕ)
+    → n ≡ eventRefusal (stateOf (c .args .counts) ps mr mw (c .args .active) u (now (c .args .readers)) (now (c .args .writers)) (now (c .args .request))) 4 (c .args .rank) (c .args .object))
+    → n ≡ 0 → (ps : List ℕ) → eventRefusal (whole c ps) 4 (c .args .rank) (c .args .object) ≡ 0
+accepted c n e z ps = sym (e (now (c .args .unlocked)) ps (now (c .args .may-read)) (now (c .args .may-write))) ∙ z
 
 unlock-refusal-requires : tie.Need-unlock-refusal-requires
 unlock-refusal-requires c κs = search needs
@@ -43,16 +42,16 @@ unlock-refusal-requires c κs = search needs
 returns : tie.Need-returns
 returns c =
     let a = c .before .before .before .before .before .args in
-    λ p ps. L.perform-refused (whole ((c .before .before .before .before .before)) p ps) 4 (a .rank) (a .object) (c .before .unlock-refusal .result) (c .before .unlock-refusal .ensures p (now (a .unlocked)) ps (now (a .may-read)) (now (a .may-write))) (c .if1 .taken)
+    λ ps. L.perform-refused (whole ((c .before .before .before .before .before)) ps) 4 (a .rank) (a .object) (c .before .unlock-refusal .result) (c .before .unlock-refusal .ensures (now (a .unlocked)) ps (now (a .may-read)) (now (a .may-write))) (c .if1 .taken)
 
 with-requires : tie.Need-with-requires
-with-requires c κs = let n = numbers ((c .before .before .before .before .before .before)) (accepted ((c .before .before .before .before .before .before)) (c .before .before .unlock-refusal .result) (c .before .before .unlock-refusal .ensures) (c .before .if1 .left) 0 []) in (n .0, n .1)
+with-requires c κs = let n = numbers ((c .before .before .before .before .before .before)) (accepted ((c .before .before .before .before .before .before)) (c .before .before .unlock-refusal .result) (c .before .before .unlock-refusal .ensures) (c .before .if1 .left) []) in (n .0, n .1)
 
 release-set-requires : tie.Need-release-set-requires
-release-set-requires c κs = numbers ((c .before .before .before .before .before .before .before .before)) (accepted ((c .before .before .before .before .before .before .before .before)) (c .before .before .before .before .unlock-refusal .result) (c .before .before .before .before .unlock-refusal .ensures) (c .before .before .before .if1 .left) 0 [])
+release-set-requires c κs = numbers ((c .before .before .before .before .before .before .before .before)) (accepted ((c .before .before .before .before .before .before .before .before)) (c .before .before .before .before .unlock-refusal .result) (c .before .before .before .before .unlock-refusal .ensures) (c .before .before .before .if1 .left) [])
 
 release-set-requires-2 : tie.Need-release-set-requires-2
-release-set-requires-2 c κs = numbers ((c .before .before .before .before .before .before .before .before .before .before)) (accepted ((c .before .before .before .before .before .before .before .before .before .before)) (c .before .before .before .before .before .before .unlock-refusal .result) (c .before .before .before .before .before .before .unlock-refusal .ensures) (c .before .before .before .before .before .if1 .left) 0 [])
+release-set-requires-2 c κs = numbers ((c .before .before .before .before .before .before .before .before .before .before)) (accepted ((c .before .before .before .before .before .before .before .before .before .before)) (c .before .before .before .before .before .before .unlock-refusal .result) (c .before .before .before .before .before .before .unlock-refusal .ensures) (c .before .before .before .before .before .if1 .left) [])
 
 wake-requires : tie.Need-wake-requires
 wake-requires c κs = (c .before .before .before .before .before .before .before .before .before .before .before .before .before .before .pre .jobs-fit, c .before .before .before .before .before .before .before .before .before .before .before .before .before .before .pre .objects-fit, c .before .before .before .before .before .before .before .before .before .before .before .before .before .before .pre .requests-fit)
@@ -61,11 +60,11 @@ returns-2 : tie.Need-returns-2
 unfolding release
 returns-2 c =
     let a = c .before .before .before .before .before .before .before .before .before .before .before .before .before .before .before .args in
-    λ p ps.
-    let s = whole ((c .before .before .before .before .before .before .before .before .before .before .before .before .before .before .before)) p ps in
-    c .wake .ensures p (a .active) (c .before .before .before .before .before .before .before .before .with .result) ps
-    ∙ (λ i. E.wake (stateOf p (a .jobs) (a .objects) ps (now (a .may-read)) (now (a .may-write)) (a .active) (c .before .before .before .before .before .before .before .before .with .ensures i) (c .before .before .before .before .before .before .release-set .ensures i) (c .before .before .before .before .release-set2 .ensures i) (now (a .request))))
-    ∙ sym (L.perform-accepted s 4 (a .rank) (a .object) (accepted ((c .before .before .before .before .before .before .before .before .before .before .before .before .before .before .before)) (c .before .before .before .before .before .before .before .before .before .before .before .unlock-refusal .result) (c .before .before .before .before .before .before .before .before .before .before .before .unlock-refusal .ensures) (c .before .before .before .before .before .before .before .before .before .before .if1 .left) p ps) ∙ L.accepted-unlock s 4 (a .rank) (a .object) refl)
+    λ ps.
+    let s = whole ((c .before .before .before .before .before .before .before .before .before .before .before .before .before .before .before)) ps in
+    c .wake .ensures (a .active) (c .before .before .before .before .before .before .before .before .with .result) ps
+    ∙ (λ i. E.wake (stateOf (a .counts) ps (now (a .may-read)) (now (a .may-write)) (a .active) (c .before .before .before .before .before .before .before .before .with .ensures i) (c .before .before .before .before .before .before .release-set .ensures i) (c .before .before .before .before .release-set2 .ensures i) (now (a .request))))
+    ∙ sym (L.perform-accepted s 4 (a .rank) (a .object) (accepted ((c .before .before .before .before .before .before .before .before .before .before .before .before .before .before .before)) (c .before .before .before .before .before .before .before .before .before .before .before .unlock-refusal .result) (c .before .before .before .before .before .before .before .before .before .before .before .unlock-refusal .ensures) (c .before .before .before .before .before .before .before .before .before .before .if1 .left) ps) ∙ L.accepted-unlock s 4 (a .rank) (a .object) refl)
 
 pub unlock-spec : {M : Type 1} → statement M
 unlock-spec =

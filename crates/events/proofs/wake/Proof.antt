@@ -6,8 +6,7 @@ use Prim.Native.Nat.{ℕ, _-_, _≤_}
 use native.Mathlib.Omega.{arith}
 use lib.ListN.{getD}
 use Rattle.basics.specs.Arrays.{at, at-index}
-use Rattle.ranks.specs.Ranks.{limit}
-use Rattle.state.specs.State.{mostObjects, stateOf, modeOfRequest, objectOfRequest, grant}
+use Rattle.state.specs.State.{mostJobs, mostObjects, stateOf, modeOfRequest, objectOfRequest, grant}
 use Rattle.rule.specs.Granting.{wakeable}
 use Rattle.rule.specs.Parts.{waitsState, wakeable-parts}
 use Rattle.events.specs.declared.Answer.the-variants.{Done}
@@ -21,18 +20,18 @@ use Rattle.events.proofs.wake.Tie as tie
 -- whoever is found is a rank, and waits for an object that the arrays have
 pub record Found (request : ℕ) (rank : ℕ) : Type 0 where
   pub first : 1 ≤ rank
-  pub last : rank ≤ limit
+  pub last : rank ≤ mostJobs
   pub object : (1 ≤ objectOfRequest request) × (objectOfRequest request ≤ mostObjects)
 
 found : (c : tie.Then1) → let a = c .before .before .before .before .before .args in Found (at (now (a .request)) (c .before .wakeable .result)) (c .before .wakeable .result)
 found c =
     let t = c .before .before .before .before .before in
     let a = t .args in
-    let s = waitsState (a .jobs) (a .objects) (now (a .may-read)) (now (a .may-write)) (now (a .readers)) (now (a .writers)) (now (a .request)) in
+    let s = waitsState (a .counts) (now (a .may-read)) (now (a .may-write)) (now (a .readers)) (now (a .writers)) (now (a .request)) in
     let e = c .before .wakeable .ensures in
     let w = woken-waits s (λ z. c .if1 .taken (e ∙ z)) in
     let low : 1 ≤ c .before .wakeable .result = omega arith in
-    let high : c .before .wakeable .result ≤ limit = omega (arith, e, w .0, t .pre .0) in
+    let high : c .before .wakeable .result ≤ mostJobs = omega (arith, e, w .0, t .pre .0) in
     record { first = low; last = high; object = t .pre .2 (c .before .wakeable .result) low high (λ z. w .1 (ap (at (now (a .request))) (sym e) ∙ z)) }
 
 -- the request that is read is the rank's
@@ -74,17 +73,17 @@ returns c =
     let r = c .before .before .before .before .before .before .before .before .wakeable .result in
     let m = c .before .before .mode-of-request .ensures ∙ ap modeOfRequest (asked ((c .before .before .before .before .before .before .before))) in
     let o = c .before .object-of-request .ensures ∙ ap objectOfRequest (asked ((c .before .before .before .before .before .before .before))) in
-    λ p a u ps.
-    let s = stateOf p (b .jobs) (b .objects) ps (now (b .may-read)) (now (b .may-write)) a u (now (b .readers)) (now (b .writers)) (now (b .request)) in
-    (λ i. outcome (Done r) (stateOf p (b .jobs) (b .objects) ps (now (b .may-read)) (now (b .may-write)) a u (c .grant .ensures .0 i) (c .grant .ensures .1 i) (c .grant .ensures .2 i)))
+    λ a u ps.
+    let s = stateOf (b .counts) ps (now (b .may-read)) (now (b .may-write)) a u (now (b .readers)) (now (b .writers)) (now (b .request)) in
+    (λ i. outcome (Done r) (stateOf (b .counts) ps (now (b .may-read)) (now (b .may-write)) a u (c .grant .ensures .0 i) (c .grant .ensures .1 i) (c .grant .ensures .2 i)))
     ∙ (λ i. outcome (Done r) (grant s (m i) r (o i)))
     ∙ sym (L.woken-some s r (c .before .before .before .before .before .before .before .before .wakeable .ensures ∙ sym (wakeable-parts s)) (c .before .before .before .before .before .before .before .if1 .taken))
 
 returns-2 : tie.Need-returns-2
 returns-2 c =
     let b = c .before .before .before .before .before .args in
-    λ p a u ps.
-    let s = stateOf p (b .jobs) (b .objects) ps (now (b .may-read)) (now (b .may-write)) a u (now (b .readers)) (now (b .writers)) (now (b .request)) in
+    λ a u ps.
+    let s = stateOf (b .counts) ps (now (b .may-read)) (now (b .may-write)) a u (now (b .readers)) (now (b .writers)) (now (b .request)) in
     ap (λ (r : ℕ). outcome (Done r) s) (c .if1 .left)
     ∙ sym (L.woken-none s (wakeable-parts s ∙ sym (c .before .wakeable .ensures) ∙ c .if1 .left))
 

@@ -19,7 +19,7 @@ returns : tie.Need-returns
 returns c =
     let a = c .before .before .before .args in
     c .inherited-by .ensures
-    ∙ inherited-by (c .before .before .named-holders .result) (waitsState (a .jobs) (a .objects) (now (a .may-read)) (now (a .may-write)) (now (a .readers)) (now (a .writers)) (now (a .request))) (c .before .before .named-holders .ensures) (a .rank) (omega arith)
+    ∙ inherited-by (c .before .before .named-holders .result) (waitsState (a .counts) (now (a .may-read)) (now (a .may-write)) (now (a .readers)) (now (a .writers)) (now (a .request))) (c .before .before .named-holders .ensures) (a .rank) (omega arith)
 
 pub inherited-rank-spec : {M : Type 1} → statement M
 inherited-rank-spec = tie.close (tie.spec named-holders-requires inherited-by-requires returns)

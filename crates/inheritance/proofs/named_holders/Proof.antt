@@ -7,6 +7,7 @@ use native.Mathlib.Omega.{arith}
 use lib.ListN.{length}
 use denote.Ref.{now}
 use Rattle.basics.specs.Arrays.{at, at-next, stored}
+use Rattle.state.specs.State.{mostJobs}
 use Rattle.weights.specs.Keys.{keyHolder, lowestKey}
 use Rattle.rule.specs.Granting.{namedKeyOf, namedKey, namedHolder}
 use Rattle.weights.specs.Parts.{locksState}
@@ -16,12 +17,12 @@ use Rattle.inheritance.proofs.named_holders.Statement.{statement}
 use Rattle.inheritance.proofs.named_holders.Tie as tie
 
 abbrev Inv-loop : tie.InvT-loop
-Inv-loop jobs objects may-read may-write readers writers request named₀ rank₀ named rank =
-    (rank ≤ jobs) × (length named ≡ 64)
-    × ((j : ℕ) → 1 ≤ j → j ≤ rank → at named j ≡ namedHolder (waitsState jobs objects may-read may-write readers writers request) j)
+Inv-loop counts may-read may-write readers writers request jobs named₀ rank₀ named rank =
+    (rank ≤ jobs) × (length named ≡ mostJobs)
+    × ((j : ℕ) → 1 ≤ j → j ≤ rank → at named j ≡ namedHolder (waitsState counts may-read may-write readers writers request) j)
 
 abbrev μ-loop : tie.MeasureT-loop
-μ-loop jobs objects may-read may-write readers writers request named₀ rank₀ named rank = jobs - rank
+μ-loop counts may-read may-write readers writers request jobs named₀ rank₀ named rank = jobs - rank
 
 loop-holds : tie.Need-loop-holds Inv-loop μ-loop
 loop-holds c = (search needs, search needs, λ j a b. absurd (omega arith))
@@ -54,8 +55,8 @@ loop-again : tie.Need-loop-again Inv-loop μ-loop
 loop-again c =
     let a = c .before .before .before .before .before .args in
     let rank = c .before .before .before .before .loop .rank in
-    let s = waitsState (a .jobs) (a .objects) (now (a .may-read)) (now (a .may-write)) (now (a .readers)) (now (a .writers)) (now (a .request)) in
-    let key = lowestKey (locksState (a .objects) (now (a .may-read)) (now (a .may-write)) (now (a .readers)) (now (a .writers))) (rank + 1) in
+    let s = waitsState (a .counts) (now (a .may-read)) (now (a .may-write)) (now (a .readers)) (now (a .writers)) (now (a .request)) in
+    let key = lowestKey (locksState (a .counts) (now (a .may-read)) (now (a .may-write)) (now (a .readers)) (now (a .writers))) (rank + 1) in
     let named : c .before .named-key .result ≡ namedKey s (rank + 1) =
     c .before .named-key .ensures ∙ ap (λ (q : ℕ). namedKeyOf q key (rank + 1)) (sym (at-next (now (a .request)) rank)) ∙ sym (named-key-parts s (rank + 1))
     in (

@@ -18,7 +18,7 @@ running-by-requires c κs = search needs
 returns : tie.Need-returns
 returns c =
     let a = c .before .before .before .args in
-    let s = runState (a .jobs) (a .objects) (now (a .processor-of)) (a .active) (now (a .may-read)) (now (a .may-write)) (now (a .readers)) (now (a .writers)) (now (a .request)) in
+    let s = runState (a .counts) (now (a .processor-of)) (a .active) (now (a .may-read)) (now (a .may-write)) (now (a .readers)) (now (a .writers)) (now (a .request)) in
     let by : NamedBy (c .before .before .named-holders .result) s = (λ r p h. c .before .before .named-holders .ensures r p h ∙ sym (named-holder-parts s r)) in
     c .running-by .ensures ∙ running-by (c .before .before .named-holders .result) s by (a .processor)
 

@@ -14,7 +14,7 @@ use Rattle.manager.proofs.act.Tie as tie
 -- the state that the parts are of
 abbrev whole : (c : tie.Start) → State
 whole c = let a = c .args in
-    stateOf (a .processors) (a .jobs) (a .objects) (now (a .processor-of)) (now (a .may-read)) (now (a .may-write))
+    stateOf (a .counts) (now (a .processor-of)) (now (a .may-read)) (now (a .may-write))
     (now (a .active)) (now (a .unlocked)) (now (a .readers)) (now (a .writers)) (now (a .request))
 
 fits-requires : tie.Need-fits-requires
@@ -31,7 +31,7 @@ perform-requires c κs = in-range (whole ((c .before .before .before .before .be
 returns-2 : tie.Need-returns-2
 returns-2 c =
     let a = c .before .before .before .before .before .before .before .before .before .before .before .before .before .args in
-    c .perform .ensures (a .processors) (now (a .processor-of))
+    c .perform .ensures (now (a .processor-of))
     ∙ sym (step-performs (whole ((c .before .before .before .before .before .before .before .before .before .before .before .before .before))) (a .kind) (a .rank) (a .object) (sym (c .before .before .before .before .before .before .before .fits2 .ensures) ∙ not-false (c .before .before .before .before .before .before .before .fits2 .result) (c .before .before .before .before .before .before .if1 .left)))
 
 pub act-spec : {M : Type 1} → statement M

@@ -11,14 +11,14 @@ use Rattle.record.proofs.lay_events.Statement.{statement}
 use Rattle.record.proofs.lay_events.Tie as tie
 
 abbrev Inv-loop : tie.InvT-loop
-Inv-loop processors jobs objects processor-of may-read may-write active₀ unlocked₀ readers₀ writers₀ request₀ buf₀ events bytes at₀ end₀ number₀ active unlocked readers writers request buf at end number =
+Inv-loop counts processor-of may-read may-write active₀ unlocked₀ readers₀ writers₀ request₀ buf₀ events bytes at₀ end₀ number₀ active unlocked readers writers request buf at end number =
     Run bytes
-    (stateOf processors jobs objects processor-of may-read may-write active₀ unlocked₀ readers₀ writers₀ request₀)
-    (stateOf processors jobs objects processor-of may-read may-write active unlocked readers writers request)
+    (stateOf counts processor-of may-read may-write active₀ unlocked₀ readers₀ writers₀ request₀)
+    (stateOf counts processor-of may-read may-write active unlocked readers writers request)
     events number buf₀ buf at end
 
 abbrev μ-loop : tie.MeasureT-loop
-μ-loop processors jobs objects processor-of may-read may-write active₀ unlocked₀ readers₀ writers₀ request₀ buf₀ events bytes at₀ end₀ number₀ active unlocked readers writers request buf at end number =
+μ-loop counts processor-of may-read may-write active₀ unlocked₀ readers₀ writers₀ request₀ buf₀ events bytes at₀ end₀ number₀ active unlocked readers writers request buf at end number =
     length bytes - at
 
 loop-holds : tie.Need-loop-holds Inv-loop μ-loop
@@ -50,7 +50,7 @@ lay-answered-requires c κs = search needs
 
 add-at : tie.Need-add-at Inv-loop μ-loop
 add-at c =
-    let inside = c .before .before .before .before .before .before .before .before .before .before .before .before .before .before .before .before .good .1 .1 .1 .1 .1 .1 .1 .1 .1 .1 .1 .1 .1 .0 .0 in
+    let inside = c .before .before .before .before .before .before .before .before .before .before .before .before .before .before .before .before .good .1 .1 .1 .1 .1 .1 .1 .1 .1 .1 .1 .0 .0 in
     omega (arith, inside)
 
 loop-less : tie.Need-loop-less Inv-loop μ-loop

@@ -17,8 +17,8 @@ use Rattle.refusals.proofs.finish_refusal.Statement.{statement}
 use Rattle.refusals.proofs.finish_refusal.Tie as tie
 
 -- the state that the parts are of, with any other parts
-abbrev whole : (c : tie.Start) → ℕ → ℕ → ℕ → List ℕ → List ℕ → List ℕ → List ℕ → List ℕ → State
-whole c p o u ps mr mw rs ws = let a = c .args in stateOf p (a .jobs) o ps mr mw (a .active) u rs ws (now (a .request))
+abbrev whole : (c : tie.Start) → ℕ → List ℕ → List ℕ → List ℕ → List ℕ → List ℕ → State
+whole c u ps mr mw rs ws = let a = c .args in stateOf (a .counts) ps mr mw (a .active) u rs ws (now (a .request))
 
 within-requires : tie.Need-within-requires
 within-requires c κs = search needs
@@ -26,13 +26,13 @@ within-requires c κs = search needs
 returns : tie.Need-returns
 returns c =
     let a = c .before .before .args in
-    λ p o u ps mr mw rs ws. sym (P.finish-refusal (whole ((c .before .before)) p o u ps mr mw rs ws) (a .kind) (a .rank) (a .object) (c .before .before .pre .1) (c .before .before .pre .2) ∙ simp (sym (c .before .within .ensures) ∙ not-true (c .before .within .result) (c .if1 .taken)))
+    λ u ps mr mw rs ws. sym (P.finish-refusal (whole ((c .before .before)) u ps mr mw rs ws) (a .kind) (a .rank) (a .object) (c .before .before .pre .1) (c .before .before .pre .2) ∙ simp (sym (c .before .within .ensures) ∙ not-true (c .before .within .result) (c .if1 .taken)))
 
 contains-requires : tie.Need-contains-requires
-contains-requires c κs = omega (arith, between-true 1 (c .before .before .args .jobs) (c .before .before .args .rank) (sym (c .before .within .ensures) ∙ not-false (c .before .within .result) (c .if1 .left)), c .before .before .pre)
+contains-requires c κs = omega (arith, between-true 1 (c .before .before .args .counts .jobs) (c .before .before .args .rank) (sym (c .before .within .ensures) ∙ not-false (c .before .within .result) (c .if1 .left)), c .before .before .pre)
 
 is-waiting-requires : tie.Need-is-waiting-requires
-is-waiting-requires c κs = omega (arith, between-true 1 (c .before .before .before .args .jobs) (c .before .before .before .args .rank) (sym (c .before .before .within .ensures) ∙ not-false (c .before .before .within .result) (c .before .if1 .left)), c .before .before .before .pre)
+is-waiting-requires c κs = omega (arith, between-true 1 (c .before .before .before .args .counts .jobs) (c .before .before .before .args .rank) (sym (c .before .before .within .ensures) ∙ not-false (c .before .before .within .result) (c .before .if1 .left)), c .before .before .before .pre)
 
 job-event-refusal-requires : tie.Need-job-event-refusal-requires
 job-event-refusal-requires c κs = search needs
@@ -43,10 +43,10 @@ refused-if-requires c κs = search needs
 returns-2 : tie.Need-returns-2
 returns-2 c =
     let a = c .before .before .before .before .before .before .args in
-    λ p o u ps mr mw rs ws. c .refused-if .ensures
+    λ u ps mr mw rs ws. c .refused-if .ensures
     ∙ ap (λ (n : ℕ). 11 if not (eqb (a .object) 0) else n)
     (c .before .job-event-refusal .ensures ∙ ap₂ (λ (b w : Bool). 13 if not b else 14 if eqb (a .kind) 5 && w else 0) (c .before .before .before .contains .ensures) (c .before .before .is-waiting .ensures))
-    ∙ sym (P.finish-refusal (whole ((c .before .before .before .before .before .before)) p o u ps mr mw rs ws) (a .kind) (a .rank) (a .object) (c .before .before .before .before .before .before .pre .1) (c .before .before .before .before .before .before .pre .2) ∙ simp (sym (c .before .before .before .before .before .within .ensures) ∙ not-false (c .before .before .before .before .before .within .result) (c .before .before .before .before .if1 .left)))
+    ∙ sym (P.finish-refusal (whole ((c .before .before .before .before .before .before)) u ps mr mw rs ws) (a .kind) (a .rank) (a .object) (c .before .before .before .before .before .before .pre .1) (c .before .before .before .before .before .before .pre .2) ∙ simp (sym (c .before .before .before .before .before .within .ensures) ∙ not-false (c .before .before .before .before .before .within .result) (c .before .before .before .before .if1 .left)))
 
 pub finish-refusal-spec : {M : Type 1} → statement M
 finish-refusal-spec =

@@ -19,18 +19,18 @@ use Rattle.rule.proofs.wakeable.Statement.{statement}
 use Rattle.rule.proofs.wakeable.Tie as tie
 
 abbrev Inv-loop : tie.InvT-loop
-Inv-loop jobs objects may-read may-write readers writers request rank at done₀ done =
-    (done ≤ objects) × ((rank + 1) * 65536 ≤ least done noKey (keyAt may-read may-write readers writers rank))
+Inv-loop counts may-read may-write readers writers request rank at done₀ done =
+    (done ≤ counts .objects) × ((rank + 1) * 65536 ≤ least done noKey (keyAt may-read may-write readers writers rank))
 
 abbrev μ-loop : tie.MeasureT-loop
-μ-loop jobs objects may-read may-write readers writers request rank at done₀ done = objects - done
+μ-loop counts may-read may-write readers writers request rank at done₀ done = counts .objects - done
 
 abbrev Inv-search : tie.InvT-search
-Inv-search jobs objects may-read may-write readers writers request rank₀ rank =
-    (rank ≤ jobs) × (firstNonzero rank (wakes (waitsState jobs objects may-read may-write readers writers request)) ≡ 0)
+Inv-search counts may-read may-write readers writers request rank₀ rank =
+    (rank ≤ counts .jobs) × (firstNonzero rank (wakes (waitsState counts may-read may-write readers writers request)) ≡ 0)
 
 abbrev μ-search : tie.MeasureT-search
-μ-search jobs objects may-read may-write readers writers request rank₀ rank = jobs - rank
+μ-search counts may-read may-write readers writers request rank₀ rank = counts .jobs - rank
 
 search-holds : tie.Need-search-holds Inv-loop μ-loop Inv-search μ-search
 unfolding firstNonzero
@@ -66,14 +66,14 @@ search-less c = search needs
 
 search-again : tie.Need-search-again Inv-loop μ-loop Inv-search μ-search
 search-again c =
-    let a = c .before .before .before .before .before .before .before .before .before .args in
-    let rank = c .before .before .before .before .before .before .before .before .search .rank in
-    let key = keyAt (now (a .may-read)) (now (a .may-write)) (now (a .readers)) (now (a .writers)) (rank + 1) (c .before .before .before .before .loop .done + 1) in
+    let a = c .before .before .before .before .before .before .before .before .before .before .before .args in
+    let rank = c .before .before .before .before .before .before .before .before .before .before .search .rank in
+    let key = keyAt (now (a .may-read)) (now (a .may-write)) (now (a .readers)) (now (a .writers)) (rank + 1) (c .before .before .before .before .before .loop .done + 1) in
     let stops : passesBelow (rank + 1) key ≡ false =
-    ap (passesBelow (rank + 1)) (sym (c .before .before .key-at .ensures)) ∙ sym (c .before .passes .ensures) ∙ not-true _ (c .if3 .taken)
+    ap (passesBelow (rank + 1)) (sym (c .before .before .key-at .ensures)) ∙ sym (c .before .passes .ensures) ∙ not-true _ (c .if4 .taken)
     in (
       search needs,
-      pass-stopped (a .jobs) (a .objects) (now (a .may-read)) (now (a .may-write)) (now (a .readers)) (now (a .writers)) (now (a .request)) rank (c .before .before .before .before .before .before .before .before .search .inv .1) (c .before .before .before .before .loop .done + 1) (omega arith) (search needs) stops,
+      pass-stopped (a .counts) (now (a .may-read)) (now (a .may-write)) (now (a .readers)) (now (a .writers)) (now (a .request)) rank (c .before .before .before .before .before .before .before .before .before .before .search .inv .1) (c .before .before .before .before .before .loop .done + 1) (omega arith) (search needs) stops,
     )
 
 loop-less : tie.Need-loop-less Inv-loop μ-loop Inv-search μ-search
@@ -81,11 +81,11 @@ loop-less c = search needs
 
 loop-again : tie.Need-loop-again Inv-loop μ-loop Inv-search μ-search
 loop-again c =
-    let a = c .before .before .before .before .before .before .before .before .before .args in
-    let rank = c .before .before .before .before .before .before .before .before .search .rank in
-    let passed : passesBelow (rank + 1) (c .before .before .key-at .result) ≡ true = sym (c .before .passes .ensures) ∙ not-false _ (c .if3 .left) in (
+    let a = c .before .before .before .before .before .before .before .before .before .before .before .args in
+    let rank = c .before .before .before .before .before .before .before .before .before .before .search .rank in
+    let passed : passesBelow (rank + 1) (c .before .before .key-at .result) ≡ true = sym (c .before .passes .ensures) ∙ not-false _ (c .if4 .left) in (
       search needs,
-      omega (arith, ltb-true (rank + 1) (c .before .before .key-at .result / 65536) passed, c .before .before .key-at .ensures, least-more (c .before .before .before .before .loop .done) noKey (keyAt (now (a .may-read)) (now (a .may-write)) (now (a .readers)) (now (a .writers)) (rank + 1))),
+      omega (arith, ltb-true (rank + 1) (c .before .before .key-at .result / 65536) passed, c .before .before .key-at .ensures, least-more (c .before .before .before .before .before .loop .done) noKey (keyAt (now (a .may-read)) (now (a .may-write)) (now (a .readers)) (now (a .writers)) (rank + 1))),
     )
 
 search-less-2 : tie.Need-search-less-2 Inv-loop μ-loop Inv-search μ-search
@@ -93,24 +93,24 @@ search-less-2 c = search needs
 
 search-again-2 : tie.Need-search-again-2 Inv-loop μ-loop Inv-search μ-search
 search-again-2 c =
-    let a = c .before .before .before .before .args in
-    let rank = c .before .before .before .search .rank in (
+    let a = c .before .before .before .before .before .args in
+    let rank = c .before .before .before .before .search .rank in (
       search needs,
-      pass-idle (a .jobs) (a .objects) (now (a .may-read)) (now (a .may-write)) (now (a .readers)) (now (a .writers)) (now (a .request)) rank (c .before .before .before .search .inv .1) (c .if2 .left),
+      pass-idle (a .counts) (now (a .may-read)) (now (a .may-write)) (now (a .readers)) (now (a .writers)) (now (a .request)) rank (c .before .before .before .before .search .inv .1) (c .if2 .left),
     )
 
 returns : tie.Need-returns Inv-loop μ-loop Inv-search μ-search
 unfolding wakeable
-returns c = sym (rw (c .if1 .taken) at (c .before .search .inv .1))
+returns c = sym (rw (c .if1 .taken) at (c .before .before .search .inv .1))
 
 returns-2 : tie.Need-returns-2 Inv-loop μ-loop Inv-search μ-search
 unfolding wakeable
 returns-2 c =
-    let a = c .before .before .before .before .before .before .args in
-    let rank = c .before .before .before .before .before .search .rank in
-    let all : c .before .loop .done ≡ a .objects = omega arith in
-    found (a .jobs) (a .objects) (now (a .may-read)) (now (a .may-write)) (now (a .readers)) (now (a .writers)) (now (a .request)) rank (c .before .before .before .before .before .search .inv .1) (search needs) (c .before .before .if2 .taken)
-    (rw all at (c .before .loop .inv .1))
+    let a = c .before .before .before .before .before .before .before .before .args in
+    let rank = c .before .before .before .before .before .before .before .search .rank in
+    let all : c .before .before .loop .done ≡ a .counts .objects = omega arith in
+    found (a .counts) (now (a .may-read)) (now (a .may-write)) (now (a .readers)) (now (a .writers)) (now (a .request)) rank (c .before .before .before .before .before .before .before .search .inv .1) (search needs) (c .before .before .before .if2 .taken)
+    (rw all at (c .before .before .loop .inv .1))
 
 pub wakeable-spec : {M : Type 1} → statement M
 wakeable-spec =

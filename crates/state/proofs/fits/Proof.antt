@@ -22,14 +22,14 @@ use Rattle.state.proofs.fits.Tie as tie
 -- the state that the parts are of
 abbrev whole : (c : tie.Start) → State
 whole c = let a = c .args in
-    stateOf (a .processors) (a .jobs) (a .objects) (now (a .processor-of)) (now (a .may-read)) (now (a .may-write))
+    stateOf (a .counts) (now (a .processor-of)) (now (a .may-read)) (now (a .may-write))
     (a .active) (a .unlocked) (now (a .readers)) (now (a .writers)) (now (a .request))
 
 good-counts : (c : tie.Else1) → countsFit (whole (c .before .before)) ≡ true
 good-counts c = sym (c .before .counts-within .ensures) ∙ not-false (c .before .counts-within .result) (c .if1 .left)
 
-limits : (c : tie.Else1) → let a = c .before .before .args in Within (a .processors) (a .jobs) (a .objects)
-limits c = let a = c .before .before .args in counts-within (a .processors) (a .jobs) (a .objects) (good-counts c)
+limits : (c : tie.Else1) → let a = c .before .before .args in Within (a .counts)
+limits c = let a = c .before .before .args in counts-within (a .counts) (good-counts c)
 
 counts-within-requires : tie.Need-counts-within-requires
 counts-within-requires c κs = search needs
@@ -43,6 +43,9 @@ up-to-requires c κs = limits c .jobs .1
 
 survey-objects-requires : tie.Need-survey-objects-requires
 survey-objects-requires c κs = limits (c .before) .objects .1
+
+is-empty-requires : tie.Need-is-empty-requires
+is-empty-requires c κs = search needs
 
 is-subset-requires : tie.Need-is-subset-requires
 is-subset-requires c κs = search needs
@@ -68,7 +71,7 @@ returns-2 c =
     let s = whole (c .before .before .before .before .before .before .before .before .before .before .before) in
     let seen = c .before .before .before .before .before .before .before .survey-objects .ensures in
     let all = c .before .before .before .before .before .before .before .before .up-to .ensures in
-    let objects = ap (λ (v : Survey). eqb (v .wrong) 0) seen in
+    let objects = c .before .before .before .before .before .before .is-empty .ensures ∙ ap (λ (v : Survey). eqb (v .wrong) 0) seen in
     let declared = c .before .before .before .before .before .is-subset .ensures ∙ ap₂ subset (ap (λ (v : Survey). v .declared) seen) all in
     let held = c .before .before .before .before .is-subset2 .ensures ∙ ap (λ (v : Survey). subset (v .held) (s .active)) seen in
     let active = c .before .before .before .is-subset3 .ensures ∙ ap (subset (s .active)) all in
@@ -83,6 +86,7 @@ fits-spec =
     returns
     up-to-requires
     survey-objects-requires
+    is-empty-requires
     is-subset-requires
     is-subset-requires-2
     is-subset-requires-3

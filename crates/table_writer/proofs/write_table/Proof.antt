@@ -38,12 +38,12 @@ sized c = record {
 well-formed : (c : tie.Else1) → wellFormed (c .before .before .before .args .t1) ≡ true
 well-formed c = sym (c .before .is-well-formed .ensures .0) ∙ not-false _ (c .if1 .left)
 
-long : (c : tie.After-entry-count) → length (tableBytes (c .before .before .before .before .before .before .before .args .t1)) ≡ 10 + c .before .before .before .before .before .before .before .args .t1 .jobs + 3 * c .entry-count .result
+long : (c : tie.After-entry-count) → length (tableBytes (c .before .before .before .before .before .before .before .before .args .t1)) ≡ 10 + c .before .before .before .before .before .before .before .before .args .t1 .counts .jobs + 3 * c .entry-count .result
 long c =
-    let start = c .before .before .before .before .before .before .before in
+    let start = c .before .before .before .before .before .before .before .before in
     let s = start .args .t1 in
-    whole-length s (table-fits s (well-formed (c .before .before .before .before))) (sized start .processor-of)
-    ∙ ap (λ (n : ℕ). 10 + s .jobs + 3 * n) (sym (c .entry-count .ensures .0))
+    whole-length s (table-fits s (well-formed (c .before .before .before .before .before))) (sized start .processor-of)
+    ∙ ap (λ (n : ℕ). 10 + s .counts .jobs + 3 * n) (sym (c .entry-count .ensures .0))
 
 -- ---- the needs
 
@@ -57,7 +57,7 @@ returns c =
     (sym (r .0), sym (r .1), sized start)
 
 entry-count-requires : tie.Need-entry-count-requires
-entry-count-requires c κs = table-fits (c .before .before .before .before .before .before .args .t1) (well-formed (c .before .before .before)) .objects-high
+entry-count-requires c κs = table-fits (c .before .before .before .before .before .before .before .args .t1) (well-formed (c .before .before .before .before)) .objects-high
 
 cast-length : tie.Need-cast-length
 cast-length c = search needs
@@ -73,17 +73,17 @@ add-length-2 c = search needs
 
 returns-2 : tie.Need-returns-2
 returns-2 c =
-    let start = c .before .before .before .before .before .before .before .before in
+    let start = c .before .before .before .before .before .before .before .before .before .before in
     let r =
-    refused-by-20 (start .args .t1) (now (start .args .buf)) (well-formed (c .before .before .before .before .before)) (omega (arith, long (c .before), c .if2 .taken)) in
+    refused-by-20 (start .args .t1) (now (start .args .buf)) (well-formed (c .before .before .before .before .before .before .before)) (omega (arith, long (c .before .before), c .if2 .taken)) in
     (sym (r .0), sym (r .1), sized start)
 
 lay-table-requires : tie.Need-lay-table-requires
 lay-table-requires c κs =
-    let start = c .before .before .before .before .before .before .before .before .before .before .before .before .before in
+    let start = c .before .before .before .before .before .before .before .before .before .before .before .before .before .before .before in
     let s = start .args .t1 in
-    let counted = c .before .before .before .before .before .before in
-    let fits = table-fits s (well-formed (c .before .before .before .before .before .before .before .before .before .before)) in (
+    let counted = c .before .before .before .before .before .before .before in
+    let fits = table-fits s (well-formed (c .before .before .before .before .before .before .before .before .before .before .before .before)) in (
       fits .jobs-high,
       fits .objects-high,
       sized start .processor-of,
@@ -96,11 +96,11 @@ same-length c = search needs
 
 returns-3 : tie.Need-returns-3
 returns-3 c =
-    let start = c .before .before .before .before .before .before .before .before .before .before .before .before .before .before .before .before in
+    let start = c .before .before .before .before .before .before .before .before .before .before .before .before .before .before .before .before .before .before in
     let s = start .args .t1 in
     let buffer = now (start .args .buf) in
-    let length-is = long (c .before .before .before .before .before .before .before .before .before) in
-    let r = table-written s buffer (well-formed (c .before .before .before .before .before .before .before .before .before .before .before .before .before)) (omega (arith, length-is, c .before .before .before .before .before .before .before .before .if2 .left)) in (
+    let length-is = long (c .before .before .before .before .before .before .before .before .before .before) in
+    let r = table-written s buffer (well-formed (c .before .before .before .before .before .before .before .before .before .before .before .before .before .before .before)) (omega (arith, length-is, c .before .before .before .before .before .before .before .before .if2 .left)) in (
       ap (λ (n : ℕ). told (n ∷ [])) (sym length-is) ∙ sym (r .0),
       c .before .before .lay-table .ensures ∙ ap (laid buffer 0) (state-table s) ∙ laid-front buffer (tableBytes s) ∙ sym (r .1),
       sized start,

@@ -13,11 +13,11 @@ use Rattle.weights.proofs.lowest_key.Statement.{statement}
 use Rattle.weights.proofs.lowest_key.Tie as tie
 
 abbrev Inv-loop : tie.InvT-loop
-Inv-loop objects may-read may-write readers writers rank lowest₀ done₀ lowest done =
+Inv-loop may-read may-write readers writers rank objects lowest₀ done₀ lowest done =
     (done ≤ objects) × (lowest ≡ least done noKey (keyAt may-read may-write readers writers rank))
 
 abbrev μ-loop : tie.MeasureT-loop
-μ-loop objects may-read may-write readers writers rank lowest₀ done₀ lowest done = objects - done
+μ-loop may-read may-write readers writers rank objects lowest₀ done₀ lowest done = objects - done
 
 loop-holds : tie.Need-loop-holds Inv-loop μ-loop
 unfolding least
@@ -47,9 +47,9 @@ loop-again c =
 returns : tie.Need-returns Inv-loop μ-loop
 returns c =
     let a = c .before .before .args in
-    let all : c .before .loop .done ≡ a .objects = omega arith in
+    let all : c .before .loop .done ≡ a .counts .objects = omega arith in
     c .before .loop .inv .1 ∙ ap (λ (n : ℕ). least n noKey (keyAt (now (a .may-read)) (now (a .may-write)) (now (a .readers)) (now (a .writers)) (a .rank))) all
-    ∙ sym (lowest-key-at (a .objects) (now (a .may-read)) (now (a .may-write)) (now (a .readers)) (now (a .writers)) (a .rank))
+    ∙ sym (lowest-key-at (a .counts) (now (a .may-read)) (now (a .may-write)) (now (a .readers)) (now (a .writers)) (a .rank))
 
 pub lowest-key-spec : {M : Type 1} → statement M
 lowest-key-spec =

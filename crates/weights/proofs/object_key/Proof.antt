@@ -1,16 +1,26 @@
 -- `weights::object_key` meets its contract: with no holder there is no key, and else it is the definition.
 -- Assumes nothing.
-use mathlib.Core.Path.{sym}
+use mathlib.Core.Path.{_≡_, sym, _∙_}
+use borrow.Author.Tests.{eqb-true}
+use Rattle.ranks.specs.Ranks.{union}
 use Rattle.weights.specs.ObjectKeys.{objectKeyOf}
 use Rattle.weights.proofs.Firsts.{object-key-none}
 use borrow.Author.Needs.{needs}
 use Rattle.weights.proofs.object_key.Statement.{statement}
 use Rattle.weights.proofs.object_key.Tie as tie
 
+union-requires : tie.Need-union-requires
+union-requires c κs = search needs
+
+is-empty-requires : tie.Need-is-empty-requires
+is-empty-requires c κs = search needs
+
 returns : tie.Need-returns
 returns c =
-    let a = c .before .args in
-    sym (object-key-none (a .readers) (a .writers) (a .may-read) (a .may-write) (a .object) (a .rank) (c .if1 .taken))
+    let a = c .before .before .before .args in
+    let none : union (a .readers) (a .writers) ≡ 0 =
+    sym (c .before .before .union .ensures) ∙ eqb-true (c .before .before .union .result) 0 (sym (c .before .is-empty .ensures) ∙ c .if1 .taken) in
+    sym (object-key-none (a .readers) (a .writers) (a .may-read) (a .may-write) (a .object) (a .rank) none)
 
 without-requires : tie.Need-without-requires
 without-requires c κs = search needs
@@ -35,6 +45,8 @@ pub object-key-spec : {M : Type 1} → statement M
 object-key-spec =
     tie.close
     (tie.spec
+    union-requires
+    is-empty-requires
     returns
     without-requires
     reader-key-requires

@@ -20,13 +20,13 @@ use Rattle.questions.proofs.parts.ask_ceilings.Tie as tie
 -- the state that the parts are of
 abbrev whole : (c : tie.Start) → State
 whole c = let a = c .args in
-    stateOf (a .processors) (a .jobs) (a .objects) (now (a .processor-of)) (now (a .may-read)) (now (a .may-write))
+    stateOf (a .counts) (now (a .processor-of)) (now (a .may-read)) (now (a .may-write))
     (a .active) (a .unlocked) (now (a .readers)) (now (a .writers)) (now (a .request))
 
 -- the number that was found is that of the state
 number : (c : tie.After-object-refusal) → c .object-refusal .result ≡ objectRefusal (whole (c .before .before)) (c .before .before .args .object)
 unfolding objectRefusal
-number c = let a = c .before .before .args in c .object-refusal .ensures ∙ ap (λ (b : Bool). objectRefusalOf b (a .objects) (a .object)) (c .before .fits2 .ensures)
+number c = let a = c .before .before .args in c .object-refusal .ensures ∙ ap (λ (b : Bool). objectRefusalOf b (a .counts .objects) (a .object)) (c .before .fits2 .ensures)
 
 not-refused : (c : tie.Else1) → objectRefusal (whole (c .before .before .before)) (c .before .before .before .args .object) ≡ 0
 not-refused c = sym (number (c .before)) ∙ c .if1 .left

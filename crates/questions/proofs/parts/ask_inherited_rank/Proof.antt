@@ -19,13 +19,13 @@ use Rattle.questions.proofs.parts.ask_inherited_rank.Tie as tie
 -- the state that the parts are of
 abbrev whole : (c : tie.Start) → State
 whole c = let a = c .args in
-    stateOf (a .processors) (a .jobs) (a .objects) (now (a .processor-of)) (now (a .may-read)) (now (a .may-write))
+    stateOf (a .counts) (now (a .processor-of)) (now (a .may-read)) (now (a .may-write))
     (a .active) (a .unlocked) (now (a .readers)) (now (a .writers)) (now (a .request))
 
 -- the number that was found is that of the state
 number : (c : tie.After-job-refusal) → c .job-refusal .result ≡ jobRefusal (whole (c .before .before)) (c .before .before .args .rank)
 unfolding jobRefusal
-number c = let a = c .before .before .args in c .job-refusal .ensures ∙ ap (λ (b : Bool). jobRefusalOf b (a .jobs) (a .active) (a .rank)) (c .before .fits2 .ensures)
+number c = let a = c .before .before .args in c .job-refusal .ensures ∙ ap (λ (b : Bool). jobRefusalOf b (a .counts .jobs) (a .active) (a .rank)) (c .before .fits2 .ensures)
 
 not-refused : (c : tie.Else1) → jobRefusal (whole (c .before .before .before)) (c .before .before .before .args .rank) ≡ 0
 not-refused c = sym (number (c .before)) ∙ c .if1 .left

@@ -3,7 +3,6 @@
 use native.Mathlib.Omega.{arith}
 use Prim.Native.Nat.{ℕ, _≤_}
 use Rattle.basics.specs.Arrays.{at-index}
-use Rattle.ranks.specs.Ranks.{limit}
 use Rattle.weights.specs.Keys.{keyHolder, keyObject, lowestKey}
 use Rattle.rule.specs.Granting.{namedKey, namedKeyOf}
 use Rattle.weights.specs.Parts.{locksOf}
@@ -15,7 +14,7 @@ use mathlib.Core.Path.{_≡_, sym, ap, _∙_}
 use mathlib.Core.Bool.{Bool}
 use borrow.Author.Tests.{eq-eqb, ne-eqb}
 use Rattle.state.specs.declared.State.{State}
-use Rattle.state.specs.State.{stateOf}
+use Rattle.state.specs.State.{mostJobs, stateOf}
 use Rattle.questions.specs.declared.NamedAnswer.{NamedAnswer}
 use Rattle.refusals.specs.Refusals.{jobRefusal, jobRefusalOf}
 use Rattle.questions.specs.Questions as Q
@@ -26,13 +25,13 @@ use Rattle.questions.proofs.parts.ask_named_lock.Tie as tie
 -- the state that the parts are of
 abbrev whole : (c : tie.Start) → State
 whole c = let a = c .args in
-    stateOf (a .processors) (a .jobs) (a .objects) (now (a .processor-of)) (now (a .may-read)) (now (a .may-write))
+    stateOf (a .counts) (now (a .processor-of)) (now (a .may-read)) (now (a .may-write))
     (a .active) (a .unlocked) (now (a .readers)) (now (a .writers)) (now (a .request))
 
 -- the number that was found is that of the state
 number : (c : tie.After-job-refusal) → c .job-refusal .result ≡ jobRefusal (whole (c .before .before)) (c .before .before .args .rank)
 unfolding jobRefusal
-number c = let a = c .before .before .args in c .job-refusal .ensures ∙ ap (λ (b : Bool). jobRefusalOf b (a .jobs) (a .active) (a .rank)) (c .before .fits2 .ensures)
+number c = let a = c .before .before .args in c .job-refusal .ensures ∙ ap (λ (b : Bool). jobRefusalOf b (a .counts .jobs) (a .active) (a .rank)) (c .before .fits2 .ensures)
 
 not-refused : (c : tie.Else1) → jobRefusal (whole (c .before .before .before)) (c .before .before .before .args .rank) ≡ 0
 not-refused c = sym (number (c .before)) ∙ c .if1 .left
@@ -50,7 +49,7 @@ returns c =
     let x = c .before .before .before .args .rank in
     ap NamedAnswer.Refused (number ((c .before))) ∙ sym (simp (ne-eqb (jobRefusal s x) 0 (λ e. c .if1 .taken (number ((c .before)) ∙ e))))
 
-known : (c : tie.Else1) → let t = c .before .before .before in Asking (whole t) × ((1 ≤ t .args .rank) × (t .args .rank ≤ limit))
+known : (c : tie.Else1) → let t = c .before .before .before in Asking (whole t) × ((1 ≤ t .args .rank) × (t .args .rank ≤ mostJobs))
 known c = let t = c .before .before .before in job-asking (whole t) (t .args .rank) (not-refused c)
 
 sub-named-key : tie.Need-sub-named-key

@@ -18,13 +18,13 @@ use Rattle.questions.proofs.parts.ask_running.Tie as tie
 -- the state that the parts are of
 abbrev whole : (c : tie.Start) → State
 whole c = let a = c .args in
-    stateOf (a .processors) (a .jobs) (a .objects) (now (a .processor-of)) (now (a .may-read)) (now (a .may-write))
+    stateOf (a .counts) (now (a .processor-of)) (now (a .may-read)) (now (a .may-write))
     (a .active) (a .unlocked) (now (a .readers)) (now (a .writers)) (now (a .request))
 
 -- the number that was found is that of the state
 number : (c : tie.After-processor-refusal) → c .processor-refusal .result ≡ processorRefusal (whole (c .before .before)) (c .before .before .args .processor)
 unfolding processorRefusal
-number c = let a = c .before .before .args in c .processor-refusal .ensures ∙ ap (λ (b : Bool). processorRefusalOf b (a .processors) (a .processor)) (c .before .fits2 .ensures)
+number c = let a = c .before .before .args in c .processor-refusal .ensures ∙ ap (λ (b : Bool). processorRefusalOf b (a .counts .processors) (a .processor)) (c .before .fits2 .ensures)
 
 not-refused : (c : tie.Else1) → processorRefusal (whole (c .before .before .before)) (c .before .before .before .args .processor) ≡ 0
 not-refused c = sym (number (c .before)) ∙ c .if1 .left

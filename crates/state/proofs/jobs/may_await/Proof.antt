@@ -9,7 +9,7 @@ use mathlib.Core.Bool.{false}
 use Prim.Native.Nat.{_≤_}
 use mathlib.Core.Bool.{Bool, true, _&&_, not}
 use Rattle.basics.specs.Choice.{between, and-right, between-true}
-use Rattle.state.specs.State.{modeOfRequest, objectOfRequest}
+use Rattle.state.specs.State.{mostObjects, modeOfRequest, objectOfRequest}
 use native.Mathlib.Omega.{arith}
 use mathlib.Core.Path.{_≡_, sym, ap₂, _∙_}
 use borrow.Author.Needs.{needs}
@@ -30,23 +30,23 @@ within-requires-2 c κs = search needs
 
 -- the request is for a mode, and for an object of the table
 tests : (c : tie.Else1) → let a = c .before .before .before .args in
-    between 1 2 (modeOfRequest (a .request)) && between 1 (a .objects) (objectOfRequest (a .request)) ≡ true
+    between 1 2 (modeOfRequest (a .request)) && between 1 (a .counts .objects) (objectOfRequest (a .request)) ≡ true
 tests c =
     ap₂ _&&_ (sym (c .before .before .within .ensures)) (sym (c .before .within2 .ensures))
     ∙ not-false (c .before .before .within .result && c .before .within2 .result) (c .if1 .left)
 
 in-table : (c : tie.Else1) → let a = c .before .before .before .args in
-    (1 ≤ objectOfRequest (a .request)) × (objectOfRequest (a .request) ≤ 128)
+    (1 ≤ objectOfRequest (a .request)) × (objectOfRequest (a .request) ≤ mostObjects)
 in-table c =
     let a = c .before .before .before .args in
-    let p = between-true 1 (a .objects) (objectOfRequest (a .request))
-    (and-right (between 1 2 (modeOfRequest (a .request))) (between 1 (a .objects) (objectOfRequest (a .request))) (tests c)) in
+    let p = between-true 1 (a .counts .objects) (objectOfRequest (a .request))
+    (and-right (between 1 2 (modeOfRequest (a .request))) (between 1 (a .counts .objects) (objectOfRequest (a .request))) (tests c)) in
     omega (arith, c .before .before .before .pre)
 
 returns : tie.Need-returns
 returns c =
     let a = c .before .before .before .args in
-    let off : between 1 2 (modeOfRequest (a .request)) && between 1 (a .objects) (objectOfRequest (a .request)) ≡ false =
+    let off : between 1 2 (modeOfRequest (a .request)) && between 1 (a .counts .objects) (objectOfRequest (a .request)) ≡ false =
     ap₂ _&&_ (sym (c .before .before .within .ensures)) (sym (c .before .within2 .ensures)) ∙ not-true (c .before .before .within .result && c .before .within2 .result) (c .if1 .taken) in
     sym (simp off)
 
@@ -93,7 +93,7 @@ returns-2 : tie.Need-returns-2
 returns-2 c =
     let t = c .before .before .before .before .before .before .before in
     let a = c .before .before .before .before .before .before .before .before .before .before .args in
-    let s = stateOf 0 0 (a .objects) [] (now (a .may-read)) (now (a .may-write)) (a .active) (a .unlocked) (now (a .readers)) (now (a .writers)) [] in
+    let s = stateOf (a .counts) [] (now (a .may-read)) (now (a .may-write)) (a .active) (a .unlocked) (now (a .readers)) (now (a .writers)) [] in
     ap₂ _&&_ (ap₂ (λ (x y : Bool). x && not y) (c .before .before .before .before .before .before .contains .ensures) (c .before .before .before .before .before .contains2 .ensures)) (c .may-ask .ensures)
     ∙ may-await-is s (modeOfRequest (a .request)) (a .rank) (objectOfRequest (a .request)) (in-table t .0) (tests t)
 

@@ -15,10 +15,13 @@ use Rattle.state.proofs.jobs.processors_fit.Statement.{statement}
 use Rattle.state.proofs.jobs.processors_fit.Tie as tie
 
 abbrev Inv-loop : tie.InvT-loop
-Inv-loop processors jobs processor-of count fit₀ i₀ fit i = (i ≤ jobs) × (fit ≡ every i (λ r. ltb (at processor-of r) processors))
+Inv-loop processor-of processors count fit₀ i₀ fit i = (i ≤ count) × (fit ≡ every i (λ r. ltb (at processor-of r) processors))
 
 abbrev μ-loop : tie.MeasureT-loop
-μ-loop processors jobs processor-of count fit₀ i₀ fit i = jobs - i
+μ-loop processor-of processors count fit₀ i₀ fit i = count - i
+
+cast-count : tie.Need-cast-count Inv-loop μ-loop
+cast-count c = search needs
 
 loop-holds : tie.Need-loop-holds Inv-loop μ-loop
 unfolding every
@@ -35,15 +38,15 @@ loop-less c = search needs
 
 loop-again : tie.Need-loop-again Inv-loop μ-loop
 unfolding every
-loop-again c = (omega arith, rw add-one (ap (λ (b : Bool). b && ltb (at (c .before .before .before .args .processor-of .now) (suc (c .before .before .loop .i))) (c .before .before .before .args .processors)) (c .before .before .loop .inv .1)))
+loop-again c = (omega arith, rw add-one (ap (λ (b : Bool). b && ltb (at (c .before .before .before .before .args .processor-of .now) (suc (c .before .before .loop .i))) (c .before .before .before .before .args .counts .processors)) (c .before .before .loop .inv .1)))
 
 returns : tie.Need-returns Inv-loop μ-loop
 unfolding processorsFit
 returns c =
-    let e : c .before .loop .i ≡ c .before .before .args .jobs = omega arith in
-    c .before .loop .inv .1 ∙ ap (λ (n : ℕ). every n (λ r. ltb (at (c .before .before .args .processor-of .now) r) (c .before .before .args .processors))) e
+    let e : c .before .loop .i ≡ c .before .before .before .args .counts .jobs = omega arith in
+    c .before .loop .inv .1 ∙ ap (λ (n : ℕ). every n (λ r. ltb (at (c .before .before .before .args .processor-of .now) r) (c .before .before .before .args .counts .processors))) e
 
 pub processors-fit-spec : {M : Type 1} → statement M
 processors-fit-spec =
     tie.close
-    (tie.spec Inv-loop μ-loop loop-holds element-copy-out-fit add-i loop-less loop-again returns)
+    (tie.spec Inv-loop μ-loop cast-count loop-holds element-copy-out-fit add-i loop-less loop-again returns)

@@ -1,5 +1,5 @@
 -- `state::waits_fit` meets its contract. The loop's invariant: each of the first `rank` jobs may wait for what it waits for;
--- a turn tests one more, and leaves the loop with the first that fails. It ends because what is left of the 64 ranks falls.
+-- a turn tests one more, and leaves the loop with the first that fails. It ends because what is left of the ranks falls.
 -- Assumes nothing.
 use denote.Ref.{now}
 use native.Mathlib.Numerals.{add-one}
@@ -7,7 +7,7 @@ use borrow.Author.Tests.{not-true, not-false}
 use Rattle.basics.specs.Loops.{every-false}
 use Rattle.basics.specs.Choice.{and-true}
 use Rattle.state.specs.declared.State.{State}
-use Rattle.state.specs.State.{modeOfRequest, objectOfRequest, requestOf}
+use Rattle.state.specs.State.{mostJobs, modeOfRequest, objectOfRequest, requestOf}
 use Rattle.state.specs.WellFormed.{mayAwait}
 use Rattle.state.proofs.WaitLaws.{wait-none, wait-asks}
 use Prim.Native.Nat.{ℕ, suc, _≤_, _-_}
@@ -23,15 +23,15 @@ use Rattle.state.proofs.jobs.waits_fit.Statement.{statement}
 use Rattle.state.proofs.jobs.waits_fit.Tie as tie
 
 abbrev Inv-loop : tie.InvT-loop
-Inv-loop objects may-read may-write active unlocked readers writers request rank₀ rank = (rank ≤ 64) × (every rank (waitFits (stateOf 0 0 objects [] may-read may-write active unlocked readers writers request)) ≡ true)
+Inv-loop counts may-read may-write active unlocked readers writers request rank₀ rank = (rank ≤ mostJobs) × (every rank (waitFits (stateOf counts [] may-read may-write active unlocked readers writers request)) ≡ true)
 
 abbrev μ-loop : tie.MeasureT-loop
-μ-loop objects may-read may-write active unlocked readers writers request rank₀ rank = 64 - rank
+μ-loop counts may-read may-write active unlocked readers writers request rank₀ rank = mostJobs - rank
 
 -- the state that the parts are of
 abbrev whole : (c : tie.Start Inv-loop μ-loop) → State
 whole c = let a = c .args in
-    stateOf 0 0 (a .objects) [] (now (a .may-read)) (now (a .may-write)) (a .active) (a .unlocked) (now (a .readers)) (now (a .writers)) (now (a .request))
+    stateOf (a .counts) [] (now (a .may-read)) (now (a .may-write)) (a .active) (a .unlocked) (now (a .readers)) (now (a .writers)) (now (a .request))
 
 -- what the call found of the next rank
 found : (c : tie.After-may-await Inv-loop μ-loop) → let t = c .before .before .before .before in
@@ -66,7 +66,7 @@ returns : tie.Need-returns Inv-loop μ-loop
 unfolding waitsFit
 returns c =
     let t = c .before .before .before .before .before in
-    sym (every-false 64 (waitFits (whole (t .before))) (suc (t .loop .rank)) (found (c .before) ∙ not-true (c .before .may-await .result) (c .if2 .taken)) (omega arith) (omega arith))
+    sym (every-false mostJobs (waitFits (whole (t .before))) (suc (t .loop .rank)) (found (c .before) ∙ not-true (c .before .may-await .result) (c .if2 .taken)) (omega arith) (omega arith))
 
 loop-less : tie.Need-loop-less Inv-loop μ-loop
 loop-less c = search needs
@@ -95,7 +95,7 @@ loop-again-2 c =
 returns-2 : tie.Need-returns-2 Inv-loop μ-loop
 unfolding waitsFit
 returns-2 c =
-    let e : c .before .loop .rank ≡ 64 = omega arith in
+    let e : c .before .loop .rank ≡ mostJobs = omega arith in
     sym (ap (λ (n : ℕ). every n (waitFits (whole (c .before .before)))) (sym e) ∙ c .before .loop .inv .1)
 
 pub waits-fit-spec : {M : Type 1} → statement M

@@ -11,14 +11,32 @@ minus-requires c κs = search needs
 minus-requires-2 : tie.Need-minus-requires-2
 minus-requires-2 c κs = search needs
 
+union-requires : tie.Need-union-requires
+union-requires c κs = search needs
+
 but-first-requires : tie.Need-but-first-requires
 but-first-requires c κs = search needs
+
+is-empty-requires : tie.Need-is-empty-requires
+is-empty-requires c κs = search needs
 
 kept-requires : tie.Need-kept-requires
 kept-requires c κs = search needs
 
+union-requires-2 : tie.Need-union-requires-2
+union-requires-2 c κs = search needs
+
+union-requires-3 : tie.Need-union-requires-3
+union-requires-3 c κs = search needs
+
 kept-requires-2 : tie.Need-kept-requires-2
 kept-requires-2 c κs = search needs
+
+union-requires-4 : tie.Need-union-requires-4
+union-requires-4 c κs = search needs
+
+union-requires-5 : tie.Need-union-requires-5
+union-requires-5 c κs = search needs
 
 returns : tie.Need-returns
 unfolding objectWrong
@@ -30,7 +48,13 @@ object-wrong-spec =
     (tie.spec
     minus-requires
     minus-requires-2
+    union-requires
     but-first-requires
+    is-empty-requires
     kept-requires
+    union-requires-2
+    union-requires-3
     kept-requires-2
+    union-requires-4
+    union-requires-5
     returns)

@@ -30,29 +30,41 @@ loop-holds c =
     let e = c .pre .3 in
     (omega arith, c .pre .0, ap (λ (v : Survey). v .declared) e, ap (λ (v : Survey). v .held) e, ap (λ (v : Survey). v .wrong) e)
 
-mul-declared : tie.Need-mul-declared Inv-loop μ-loop
-mul-declared c = search needs
+mul-union : tie.Need-mul-union Inv-loop μ-loop
+mul-union c = search needs
 
-element-copy-out-declared : tie.Need-element-copy-out-declared Inv-loop μ-loop
-element-copy-out-declared c = search needs
+element-copy-out-union : tie.Need-element-copy-out-union Inv-loop μ-loop
+element-copy-out-union c = search needs
 
-mul-declared-2 : tie.Need-mul-declared-2 Inv-loop μ-loop
-mul-declared-2 c = search needs
+mul-union-2 : tie.Need-mul-union-2 Inv-loop μ-loop
+mul-union-2 c = search needs
 
-element-copy-out-declared-2 : tie.Need-element-copy-out-declared-2 Inv-loop μ-loop
-element-copy-out-declared-2 c = search needs
+element-copy-out-union-2 : tie.Need-element-copy-out-union-2 Inv-loop μ-loop
+element-copy-out-union-2 c = search needs
 
-mul-held : tie.Need-mul-held Inv-loop μ-loop
-mul-held c = search needs
+union-requires : tie.Need-union-requires Inv-loop μ-loop
+union-requires c κs = search needs
 
-element-copy-out-held : tie.Need-element-copy-out-held Inv-loop μ-loop
-element-copy-out-held c = search needs
+union-requires-2 : tie.Need-union-requires-2 Inv-loop μ-loop
+union-requires-2 c κs = search needs
 
-mul-held-2 : tie.Need-mul-held-2 Inv-loop μ-loop
-mul-held-2 c = search needs
+mul-union-3 : tie.Need-mul-union-3 Inv-loop μ-loop
+mul-union-3 c = search needs
 
-element-copy-out-held-2 : tie.Need-element-copy-out-held-2 Inv-loop μ-loop
-element-copy-out-held-2 c = search needs
+element-copy-out-union-3 : tie.Need-element-copy-out-union-3 Inv-loop μ-loop
+element-copy-out-union-3 c = search needs
+
+mul-union-4 : tie.Need-mul-union-4 Inv-loop μ-loop
+mul-union-4 c = search needs
+
+element-copy-out-union-4 : tie.Need-element-copy-out-union-4 Inv-loop μ-loop
+element-copy-out-union-4 c = search needs
+
+union-requires-3 : tie.Need-union-requires-3 Inv-loop μ-loop
+union-requires-3 c κs = search needs
+
+union-requires-4 : tie.Need-union-requires-4 Inv-loop μ-loop
+union-requires-4 c κs = search needs
 
 mul-object-wrong : tie.Need-mul-object-wrong Inv-loop μ-loop
 mul-object-wrong c = search needs
@@ -81,6 +93,9 @@ element-copy-out-object-wrong-4 c = search needs
 object-wrong-requires : tie.Need-object-wrong-requires Inv-loop μ-loop
 object-wrong-requires c κs = search needs
 
+union-requires-5 : tie.Need-union-requires-5 Inv-loop μ-loop
+union-requires-5 c κs = search needs
+
 add-i : tie.Need-add-i Inv-loop μ-loop
 add-i c = search needs
 
@@ -95,23 +110,23 @@ same-side n from to i (inr h) l g = le-leb n from h ∙ sym (le-leb n i (omega a
 loop-again : tie.Need-loop-again Inv-loop μ-loop
 unfolding surveyTo
 loop-again c =
-    let t = c .before .before .before .before .before .before .before .before .before .before in
+    let t = c .before .before .before .before .before .before .before .before .before .before .before .before .before .before .before in
     let a = t .before .args in
     let mr = now (a .may-read) in
     let mw = now (a .may-write) in
     let rd = now (a .readers) in
     let wr = now (a .writers) in
     let n = a .objects in
-    let i = t .loop .i in (
+    let i = t .loop .i in
+    let test =
+    c .before .object-wrong .ensures
+    ∙ ap (λ b. objectWrong b (at mr (suc i)) (at mw (suc i)) (at rd (suc i)) (at wr (suc i)))
+    (same-side n (a .from) (a .to) i (t .before .pre .2) (t .loop .inv .0) (c .before .before .before .before .before .before .before .before .before .before .before .before .before .before .loop-test .taken) ∙ sym (leb·suc-suc n i)) in (
       omega arith,
       omega arith,
-      ap (λ (x : ℕ). union x (union (at mr (suc i)) (at mw (suc i)))) (t .loop .inv .2) ∙ sym (unions-next i (λ o. union (at mr o) (at mw o))),
-      ap (λ (x : ℕ). union x (union (at rd (suc i)) (at wr (suc i)))) (t .loop .inv .3) ∙ sym (unions-next i (λ o. union (at rd o) (at wr o))),
-      ap₂ union (t .loop .inv .4)
-          (c .object-wrong .ensures
-          ∙ ap (λ b. objectWrong b (at mr (suc i)) (at mw (suc i)) (at rd (suc i)) (at wr (suc i)))
-          (same-side n (a .from) (a .to) i (t .before .pre .2) (t .loop .inv .0) (c .before .before .before .before .before .before .before .before .before .loop-test .taken) ∙ sym (leb·suc-suc n i)))
-          ∙ sym (unions-next i (λ o. objectWrong (isOutside n o) (at mr o) (at mw o) (at rd o) (at wr o))),
+      c .before .before .before .before .before .before .before .before .before .before .union2 .ensures ∙ ap₂ union (t .loop .inv .2) (c .before .before .before .before .before .before .before .before .before .before .before .union .ensures) ∙ sym (unions-next i (λ o. union (at mr o) (at mw o))),
+      c .before .before .before .before .before .before .union4 .ensures ∙ ap₂ union (t .loop .inv .3) (c .before .before .before .before .before .before .before .union3 .ensures) ∙ sym (unions-next i (λ o. union (at rd o) (at wr o))),
+      c .union5 .ensures ∙ ap₂ union (t .loop .inv .4) test ∙ sym (unions-next i (λ o. objectWrong (isOutside n o) (at mr o) (at mw o) (at rd o) (at wr o))),
     )
 
 returns : tie.Need-returns Inv-loop μ-loop
@@ -134,14 +149,18 @@ survey-range-spec =
     Inv-loop
     μ-loop
     loop-holds
-    mul-declared
-    element-copy-out-declared
-    mul-declared-2
-    element-copy-out-declared-2
-    mul-held
-    element-copy-out-held
-    mul-held-2
-    element-copy-out-held-2
+    mul-union
+    element-copy-out-union
+    mul-union-2
+    element-copy-out-union-2
+    union-requires
+    union-requires-2
+    mul-union-3
+    element-copy-out-union-3
+    mul-union-4
+    element-copy-out-union-4
+    union-requires-3
+    union-requires-4
     mul-object-wrong
     element-copy-out-object-wrong
     mul-object-wrong-2
@@ -151,6 +170,7 @@ survey-range-spec =
     mul-object-wrong-4
     element-copy-out-object-wrong-4
     object-wrong-requires
+    union-requires-5
     add-i
     loop-less
     loop-again

@@ -10,8 +10,7 @@ use mathlib.Core.List.{List, _++_}
 use lib.ListN.{length, getD, take, drop, set, length-drop}
 use lib.Seq.{getD-drop}
 use Rattle.basics.specs.Arrays.{copied-more}
-use Rattle.ranks.specs.Ranks.{limit}
-use Rattle.state.specs.State.{zeros}
+use Rattle.state.specs.State.{mostJobs, zeros}
 use Rattle.table_bytes.specs.Bytes.{jobsIn}
 use Rattle.table.specs.Reading.{processorsOf}
 use borrow.Author.Needs.{needs}
@@ -19,7 +18,7 @@ use Rattle.table.proofs.rights.processors_of.Statement.{statement}
 use Rattle.table.proofs.rights.processors_of.Tie as tie
 
 abbrev Inv-loop : tie.InvT-loop
-Inv-loop bytes jobs processors₀ i₀ processors i = (i ≤ jobs) × (processors ≡ take i (drop 8 bytes) ++ zeros (limit - i))
+Inv-loop bytes jobs processors₀ i₀ processors i = (i ≤ jobs) × (processors ≡ take i (drop 8 bytes) ++ zeros (mostJobs - i))
 
 abbrev μ-loop : tie.MeasureT-loop
 μ-loop bytes jobs processors₀ i₀ processors i = jobs - i
@@ -56,8 +55,8 @@ loop-again c =
     let l : i < length (drop 8 b) = simp length-drop (omega arith) in (
       omega arith,
       ap (λ (x : List ℕ). set x i (getD b (8 + i) 0)) (c .before .before .loop .inv .1)
-          ∙ ap (λ (v : ℕ). set (take i (drop 8 b) ++ zeros (limit - i)) i v) (sym (getD-drop 8 b i 0))
-          ∙ copied-more (drop 8 b) limit i (omega arith) l,
+          ∙ ap (λ (v : ℕ). set (take i (drop 8 b) ++ zeros (mostJobs - i)) i v) (sym (getD-drop 8 b i 0))
+          ∙ copied-more (drop 8 b) mostJobs i (omega arith) l,
     )
 
 returns : tie.Need-returns Inv-loop μ-loop
@@ -65,7 +64,7 @@ unfolding processorsOf
 returns c =
     let b = now (c .before .before .before .before .before .args .bytes) in
     let all : c .before .loop .i ≡ jobsIn b = omega arith in
-    c .before .loop .inv .1 ∙ ap (λ (n : ℕ). take n (drop 8 b) ++ zeros (limit - n)) all
+    c .before .loop .inv .1 ∙ ap (λ (n : ℕ). take n (drop 8 b) ++ zeros (mostJobs - n)) all
 
 pub processors-of-spec : {M : Type 1} → statement M
 processors-of-spec =

@@ -1,14 +1,14 @@
 -- `table_bytes::table_refusals::header_refusal` meets its contract, test by test.
 -- Assumes nothing.
 use Prim.Native.Nat.{ℕ}
-use mathlib.Core.Path.{_≡_, sym, _∙_}
+use mathlib.Core.Path.{_≡_, sym, ap, _∙_}
 use mathlib.Core.Bool.{true, false}
 use mathlib.Core.List.{List}
 use lib.Dec.{eqb, ltb}
 use lib.ListN.{length}
 use borrow.Author.Tests.{lt-ltb, le-ltb, eq-eqb, ne-eqb, not-true, not-false}
 use Rattle.state.specs.WellFormed.{countsWithin}
-use Rattle.table_bytes.specs.Bytes.{processorsIn, jobsIn, objectsIn, versionIn}
+use Rattle.table_bytes.specs.Bytes.{countsIn, versionIn}
 use Rattle.table_bytes.specs.Refusals.{hasMark, headerRefusal}
 use borrow.Author.Needs.{needs}
 use Rattle.table_bytes.proofs.table_refusals.header_refusal.Statement.{statement}
@@ -28,12 +28,12 @@ module _ (b : List ℕ) where
   unfolding headerRefusal
   other-version l m v = simp (l, m, v)
 
-  bad-count : ltb (length b) 8 ≡ false → hasMark b ≡ true → eqb (versionIn b) 1 ≡ true → countsWithin (processorsIn b) (jobsIn b) (objectsIn b) ≡ false
+  bad-count : ltb (length b) 8 ≡ false → hasMark b ≡ true → eqb (versionIn b) 1 ≡ true → countsWithin (countsIn b) ≡ false
       → headerRefusal b ≡ 4
   unfolding headerRefusal
   bad-count l m v n = simp (l, m, v, n)
 
-  right : ltb (length b) 8 ≡ false → hasMark b ≡ true → eqb (versionIn b) 1 ≡ true → countsWithin (processorsIn b) (jobsIn b) (objectsIn b) ≡ true
+  right : ltb (length b) 8 ≡ false → hasMark b ≡ true → eqb (versionIn b) 1 ≡ true → countsWithin (countsIn b) ≡ true
       → headerRefusal b ≡ 0
   unfolding headerRefusal
   right l m v n = simp (l, m, v, n)
@@ -68,23 +68,17 @@ word-requires c κs = search needs
 returns-3 : tie.Need-returns-3
 returns-3 c = sym (other-version _ (le-ltb _ _ (c .before .before .before .before .before .before .before .before .before .if1 .left)) (sym (c .before .before .before .before .before .is-mark .ensures) ∙ not-false _ (c .before .before .before .before .if2 .left)) (ne-eqb _ _ (λ e. c .if3 .taken (c .before .word .ensures .0 ∙ e))))
 
-shared-slice-read-counts-within : tie.Need-shared-slice-read-counts-within
-shared-slice-read-counts-within c = search needs
-
-shared-slice-read-counts-within-2 : tie.Need-shared-slice-read-counts-within-2
-shared-slice-read-counts-within-2 c = search needs
-
-shared-slice-read-counts-within-3 : tie.Need-shared-slice-read-counts-within-3
-shared-slice-read-counts-within-3 c = search needs
+counts-in-requires : tie.Need-counts-in-requires
+counts-in-requires c κs = search needs
 
 counts-within-requires : tie.Need-counts-within-requires
 counts-within-requires c κs = search needs
 
 returns-4 : tie.Need-returns-4
-returns-4 c = sym (bad-count _ (le-ltb _ _ (c .before .before .before .before .before .before .before .before .before .before .before .before .before .before .if1 .left)) (sym (c .before .before .before .before .before .before .before .before .before .before .is-mark .ensures) ∙ not-false _ (c .before .before .before .before .before .before .before .before .before .if2 .left)) (eq-eqb _ _ (sym (c .before .before .before .before .before .before .word .ensures .0) ∙ c .before .before .before .before .before .if3 .left)) (sym (c .before .counts-within .ensures) ∙ not-true _ (c .if4 .taken)))
+returns-4 c = sym (bad-count _ (le-ltb _ _ (c .before .before .before .before .before .before .before .before .before .before .before .before .if1 .left)) (sym (c .before .before .before .before .before .before .before .before .is-mark .ensures) ∙ not-false _ (c .before .before .before .before .before .before .before .if2 .left)) (eq-eqb _ _ (sym (c .before .before .before .before .word .ensures .0) ∙ c .before .before .before .if3 .left)) (sym (c .before .counts-within .ensures ∙ ap countsWithin (c .before .before .counts-in .ensures)) ∙ not-true _ (c .if4 .taken)))
 
 returns-5 : tie.Need-returns-5
-returns-5 c = sym (right _ (le-ltb _ _ (c .before .before .before .before .before .before .before .before .before .before .before .before .before .before .if1 .left)) (sym (c .before .before .before .before .before .before .before .before .before .before .is-mark .ensures) ∙ not-false _ (c .before .before .before .before .before .before .before .before .before .if2 .left)) (eq-eqb _ _ (sym (c .before .before .before .before .before .before .word .ensures .0) ∙ c .before .before .before .before .before .if3 .left)) (sym (c .before .counts-within .ensures) ∙ not-false _ (c .if4 .left)))
+returns-5 c = sym (right _ (le-ltb _ _ (c .before .before .before .before .before .before .before .before .before .before .before .before .if1 .left)) (sym (c .before .before .before .before .before .before .before .before .is-mark .ensures) ∙ not-false _ (c .before .before .before .before .before .before .before .if2 .left)) (eq-eqb _ _ (sym (c .before .before .before .before .word .ensures .0) ∙ c .before .before .before .if3 .left)) (sym (c .before .counts-within .ensures ∙ ap countsWithin (c .before .before .counts-in .ensures)) ∙ not-false _ (c .if4 .left)))
 
 pub header-refusal-spec : {M : Type 1} → statement M
 header-refusal-spec =
@@ -100,9 +94,7 @@ header-refusal-spec =
     shared-slice-read-word-2
     word-requires
     returns-3
-    shared-slice-read-counts-within
-    shared-slice-read-counts-within-2
-    shared-slice-read-counts-within-3
+    counts-in-requires
     counts-within-requires
     returns-4
     returns-5)

@@ -1,5 +1,5 @@
--- `table_writer::count::entry_count` meets its contract. The loop's invariant: the count is the total of the first i objects, and at most 64 for
--- each. A turn adds the next object's. The measure is how many objects are left. Assumes nothing.
+-- `table_writer::count::entry_count` meets its contract. The loop's invariant: the count is the total of the first i objects, and at most the bits of a
+-- word for each. A turn adds the next object's. The measure is how many objects are left. Assumes nothing.
 use Prim.Native.Nat.{_+_, _-_, _*_, _≤_}
 use mathlib.Core.Path.{_≡_, refl, sym, ap, ap₂, _∙_}
 use native.Mathlib.Numerals.{add-one}
@@ -8,13 +8,13 @@ use borrow.Author.Needs.{needs}
 use denote.Ref.{now}
 use lib.ListN.{getD}
 use Rattle.basics.specs.Loops.{sum, sum-more}
-use Rattle.ranks.specs.Ranks.{union, size}
+use Rattle.ranks.specs.Ranks.{wordBits, union, size}
 use Rattle.table_writer.specs.Laying.{entriesOn, entryTotal}
 use Rattle.table_writer.proofs.count.entry_count.Statement.{statement}
 use Rattle.table_writer.proofs.count.entry_count.Tie as tie
 
 abbrev Inv-loop : tie.InvT-loop
-Inv-loop reads writes objects count₀ i₀ count i = (i ≤ objects) × (count ≡ entryTotal reads writes i) × (count ≤ 64 * i)
+Inv-loop reads writes objects count₀ i₀ count i = (i ≤ objects) × (count ≡ entryTotal reads writes i) × (count ≤ wordBits * i)
 
 abbrev μ-loop : tie.MeasureT-loop
 μ-loop reads writes objects count₀ i₀ count i = objects - i

@@ -37,7 +37,7 @@ same-length : tie.Need-same-length
 same-length c = simp length-set
 
 returns : tie.Need-returns
-returns c = sets-laid (now (c .args .buf)) 0 (headerOf (c .args .processors) (c .args .jobs) (c .args .objects)) (omega arith)
+returns c = sets-laid (now (c .args .buf)) 0 (headerOf (c .args .counts)) (omega arith)
 
 pub lay-header-spec : {M : Type 1} → statement M
 lay-header-spec =

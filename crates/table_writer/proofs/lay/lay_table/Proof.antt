@@ -15,6 +15,9 @@ use Rattle.table_writer.proofs.TableLaid.{table-laid}
 use Rattle.table_writer.proofs.lay.lay_table.Statement.{statement}
 use Rattle.table_writer.proofs.lay.lay_table.Tie as tie
 
+cast-jobs : tie.Need-cast-jobs
+cast-jobs c = search needs
+
 add-at : tie.Need-add-at
 add-at c = search needs
 
@@ -42,20 +45,21 @@ returns c =
     let word = c .before .before .before .before .before .before in
     let processors = word .before .before .before .before in
     let header = processors .before .before .before .before in
-    let start = header .before .before .before in
+    let start = header .before .before .before .before in
     let args = start .args in
-    let s = freshState (args .processors) (args .jobs) (args .objects) (now (args .processor-of)) (now (args .reads)) (now (args .writes)) in
+    let s = freshState (args .counts) (now (args .processor-of)) (now (args .reads)) (now (args .writes)) in
     let entries = state-entries s in
     let count : 3 * args .count ≡ length (entriesBytes s) = start .pre .3 ∙ ap length (sym entries) in
     table-laid s (args .count) (omega (arith, start .pre .0, start .pre .2)) count (now (args .buf))
     (header .lay-header .last .0) (processors .lay-processors .last .0) (word .lay-word .last .0) (c .before .before .lay-entries .last .0)
     (header .lay-header .ensures) (processors .lay-processors .ensures) (word .lay-word .ensures)
-    (c .before .before .lay-entries .ensures ∙ ap (laid (word .lay-word .last .0) (8 + args .jobs + 2)) (sym entries))
+    (c .before .before .lay-entries .ensures ∙ ap (laid (word .lay-word .last .0) (8 + args .counts .jobs + 2)) (sym entries))
 
 pub lay-table-spec : {M : Type 1} → statement M
 lay-table-spec =
     tie.close
     (tie.spec
+    cast-jobs
     add-at
     lay-header-requires
     lay-processors-requires

@@ -3,7 +3,7 @@
 use denote.Ref.{now}
 use mathlib.Core.Path.{_≡_, sym, ap, _∙_}
 use Rattle.state.specs.declared.State.{State}
-use Rattle.state.specs.State.{stateOf}
+use Rattle.state.specs.State.{countsOf, stateOf}
 use Rattle.table.specs.declared.TableRead.{TableRead}
 use Rattle.table.specs.Reading.{readTable}
 use Rattle.vongselik.specs.Lending.{read-kept, read-filled}
@@ -14,7 +14,7 @@ use Rattle.vongselik.proofs.tables.vongselik_parts_read_table.Tie as ti
 -- the state that the lent parts are of
 abbrev whole : (c : tie.Start) → State
 whole c = let a = c .args in
-    stateOf (now (a .processors)) (now (a .jobs)) (now (a .objects)) (now (a .processor-of)) (now (a .may-read)) (now (a .may-write))
+    stateOf (countsOf (now (a .processors)) (now (a .jobs)) (now (a .objects))) (now (a .processor-of)) (now (a .may-read)) (now (a .may-write))
     (now (a .active)) (now (a .unlocked)) (now (a .readers)) (now (a .writers)) (now (a .request))
 
 read-table-requires : tie.Need-read-table-requires
@@ -29,9 +29,9 @@ returns c =
 
 returns-2 : tie.Need-returns-2
 returns-2 c =
-    let h = c .before .before .before .before .before .before .before .before .before .read-table .ensures in
-    let z : readTable (now (c .before .before .before .before .before .before .before .before .before .before .before .args .bytes)) .refusal ≡ 0 = sym (ap (λ (t : TableRead). t .refusal) h) ∙ c .before .before .before .before .before .before .before .if1 .left in
-    let filled = read-filled (readTable (now (c .before .before .before .before .before .before .before .before .before .before .before .args .bytes))) (whole (c .before .before .before .before .before .before .before .before .before .before .before)) (now (c .before .before .before .before .before .before .before .before .before .before .before .args .used)) z in
+    let h = c .before .before .before .before .before .before .before .before .before .before .read-table .ensures in
+    let z : readTable (now (c .before .before .before .before .before .before .before .before .before .before .before .before .args .bytes)) .refusal ≡ 0 = sym (ap (λ (t : TableRead). t .refusal) h) ∙ c .before .before .before .before .before .before .before .before .if1 .left in
+    let filled = read-filled (readTable (now (c .before .before .before .before .before .before .before .before .before .before .before .before .args .bytes))) (whole ((c .before .before .before .before .before .before .before .before .before .before .before .before))) (now (c .before .before .before .before .before .before .before .before .before .before .before .before .args .used)) z in
     (sym z, (ap (λ (t : TableRead). t .used) h ∙ sym (filled .0), ap (λ (t : TableRead). t .state) h ∙ sym (filled .1)))
 
 pub vongselik-parts-read-table-spec : {M : Type 1} → statement M
