@@ -2,10 +2,10 @@
 -- Assumes nothing.
 use Prim.Native.Nat.{ℕ, _^_}
 use mathlib.Core.Bool.{Bool, not, _&&_, _||_}
-use lib.Dec.{eqb, ltb}
+use lib.Dec.{ltb}
 use Rattle.basics.specs.Choice.{between}
 use Rattle.basics.specs.Loops.{every}
-use Rattle.ranks.specs.Ranks.{subset, disjoint, atMostOne}
+use Rattle.ranks.specs.Ranks.{isEmpty, subset, disjoint, atMostOne}
 use Rattle.state.specs.declared.Counts.{Counts}
 use Rattle.state.specs.declared.State.{State}
 use Rattle.state.specs.State.{mostJobs, mostObjects, mostProcessors, read, write, isObject, processorOf, declared, declaredAny, mayLock}
@@ -29,7 +29,7 @@ processorsFit s = every (s .counts .jobs) (processorFits s)
 
 -- nothing is declared for an object that the table does not have
 abbrev pub declarationFits : State → ℕ → Bool
-declarationFits s o = isObject s o || eqb (declaredAny s o) 0
+declarationFits s o = isObject s o || isEmpty (declaredAny s o)
 
 -- "declarations within limits"
 unfoldable pub declarationsFit : State → Bool
@@ -67,7 +67,7 @@ oneLockEach s = every mostObjects (lockedOnce s)
 
 -- of object o's readers and writers: there is at most one writer, and no reader where there is one
 abbrev pub alone : ℕ → ℕ → Bool
-alone readers writers = atMostOne writers && (eqb writers 0 || eqb readers 0)
+alone readers writers = atMostOne writers && (isEmpty writers || isEmpty readers)
 
 abbrev pub writtenAlone : State → ℕ → Bool
 writtenAlone s o = alone (holders s read o) (holders s write o)
