@@ -84,10 +84,6 @@ fn answer(bench: Bench, count: usize, bytes: &[u8], lines: &mut [u8]) -> Advance
     ensures { λ r. ⌜ Advances r (answering count bench (now (bytes .entry))) 45 (now (lines .entry)) (now (lines .exit)) ⌝ }
 {
     let state = bench.state;
-    let counts = state.counts;
-    let processor_of = state.processor_of;
-    let may_read = state.may_read;
-    let may_write = state.may_write;
     let mut active = state.active;
     let mut unlocked = state.unlocked;
     let mut readers = state.readers;
@@ -95,10 +91,10 @@ fn answer(bench: Bench, count: usize, bytes: &[u8], lines: &mut [u8]) -> Advance
     let mut request = state.request;
     let used = 3 * count;
     let laid = lay_events(
-        counts,
-        &processor_of,
-        &may_read,
-        &may_write,
+        state.counts,
+        &state.processor_of,
+        &state.may_read,
+        &state.may_write,
         &mut active,
         &mut unlocked,
         &mut readers,
@@ -108,17 +104,12 @@ fn answer(bench: Bench, count: usize, bytes: &[u8], lines: &mut [u8]) -> Advance
         bench.events,
         &bytes[..used],
     );
-    let next = State {
-        counts,
-        processor_of,
-        may_read,
-        may_write,
-        active,
-        unlocked,
-        readers,
-        writers,
-        request,
-    };
+    let mut next = state;
+    next.active = active;
+    next.unlocked = unlocked;
+    next.readers = readers;
+    next.writers = writers;
+    next.request = request;
     let after = Bench {
         refusal: 0,
         events: bench.events + count as u64,
