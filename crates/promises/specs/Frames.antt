@@ -53,7 +53,7 @@ module _ (s : State) (F : Facts s) (r : ℕ) (low : 1 ≤ r) (high : r ≤ s .co
   -- a request that passes conflicts with no lock of another job: each such lock weighs at least as urgent as r
   pub no-conflict : NoConflict s m r o
   no-conflict = record {
-    shares = λ x d i. omega (arith, meets x d write (inr refl) i, write-any s m r x o (A .right));
+    none-alone = λ x d i. omega (arith, meets x d write (inr refl) i, write-any s m r x o (A .right));
     no-writer = λ k x d i. omega (arith, meets x d write (inr refl) i, write-writer s r x o (writable s F r low high m o A k));
     no-reader = λ k x d i. omega (arith, meets x d read (inl refl) i, read-writer s r x o (writable s F r low high m o A k));
   }

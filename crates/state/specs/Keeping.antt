@@ -185,7 +185,9 @@ module _ (s : State) (F : Facts s) (r : ℕ) (low : 1 ≤ r) (high : r ≤ s .co
 
 -- no lock of another job on o conflicts with one of r in mode m: "either is a write"
 pub record NoConflict (s : State) (m r o : ℕ) : Type 0 where
-  pub shares : (x : ℕ) → r ≢ x → In (holders s write o) x → ⊥
+  -- none of them "shares its object with no other", as a write lock does
+  pub none-alone : (x : ℕ) → r ≢ x → In (holders s write o) x → ⊥
+  -- and where r does not only read, none writes, which follows as long as every write lock is alone, and none reads
   pub no-writer : m ≢ read → (x : ℕ) → r ≢ x → In (holders s write o) x → ⊥
   pub no-reader : m ≢ read → (x : ℕ) → r ≢ x → In (holders s read o) x → ⊥
 
@@ -279,7 +281,7 @@ module _ (s : State) (F : Facts s) (r : ℕ) (low : 1 ≤ r) (high : r ≤ s .co
           let i' = written e a i in
           let before = F .locks o .alone a b i' in (
             λ j. before .0 (written e b j),
-            λ j. elim (reading e b j) [ inl k ↦ N .shares a (unwritten e a i') i' | inr k ↦ before .1 k ],
+            λ j. elim (reading e b j) [ inl k ↦ N .none-alone a (unwritten e a i') i' | inr k ↦ before .1 k ],
           )
       | no d ↦ (λ j. sym (own d a i) ∙ own d b j, λ j. (let z = others-reading d b j in N .no-reader d b (z .1) (z .0)))
     ]
