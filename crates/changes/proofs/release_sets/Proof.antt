@@ -1,5 +1,5 @@
 -- `changes::release_sets` meets its contract. The loop's invariant: the first i sets are without the rank, the others as they were.
--- It ends because what is left of the 128 sets falls.
+-- It ends because what is left of the sets falls.
 -- Assumes nothing.
 use Prim.Native.Nat.{ℕ, _-_, _≤_}
 use mathlib.Core.Path.{_≡_, refl, ap, _∙_}
@@ -8,15 +8,16 @@ use native.Mathlib.Omega.{arith}
 use lib.ListN.{getD, set}
 use Rattle.basics.specs.Arrays.{mapped, mapped-more}
 use Rattle.ranks.specs.Ranks.{without}
+use Rattle.state.specs.State.{mostObjects}
 use borrow.Author.Needs.{needs}
 use Rattle.changes.proofs.release_sets.Statement.{statement}
 use Rattle.changes.proofs.release_sets.Tie as tie
 
 abbrev Inv-loop : tie.InvT-loop
-Inv-loop sets₀ rank i₀ sets i = (i ≤ 128) × (sets ≡ mapped (λ v. without v rank) i sets₀)
+Inv-loop sets₀ rank i₀ sets i = (i ≤ mostObjects) × (sets ≡ mapped (λ v. without v rank) i sets₀)
 
 abbrev μ-loop : tie.MeasureT-loop
-μ-loop sets₀ rank i₀ sets i = 128 - i
+μ-loop sets₀ rank i₀ sets i = mostObjects - i
 
 loop-holds : tie.Need-loop-holds Inv-loop μ-loop
 unfolding mapped
@@ -54,7 +55,7 @@ loop-again c =
 
 returns : tie.Need-returns Inv-loop μ-loop
 returns c =
-    let e : c .before .loop .i ≡ 128 = omega arith in
+    let e : c .before .loop .i ≡ mostObjects = omega arith in
     c .before .loop .inv .1 ∙ ap (λ (n : ℕ). mapped (λ v. without v (c .before .before .args .rank)) n (c .before .before .args .sets .now)) e
 
 pub release-sets-spec : {M : Type 1} → statement M

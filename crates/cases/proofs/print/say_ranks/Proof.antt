@@ -1,6 +1,7 @@
 -- `cases::print::say_ranks` is safe and ends: the measure is how many ranks are left. Assumes nothing.
 use Prim.Native.Nat.{_-_}
 use native.Mathlib.Omega.{arith}
+use Rattle.state.specs.State.{mostJobs}
 use Rattle.cases.proofs.print.say_ranks.Statement.{statement}
 use Rattle.cases.proofs.print.say_ranks.Tie as tie
 
@@ -8,7 +9,7 @@ abbrev Inv-loop : tie.InvT-loop
 Inv-loop set rank₀ rank = Unit {0}
 
 abbrev μ-loop : tie.MeasureT-loop
-μ-loop set rank₀ rank = 64 - rank
+μ-loop set rank₀ rank = mostJobs - rank
 
 loop-holds : tie.Need-loop-holds Inv-loop μ-loop
 loop-holds c = tt

@@ -5,6 +5,7 @@ use mathlib.Core.Logic.{inl, inr}
 use native.Mathlib.Omega.{arith}
 use native.Mathlib.Nat.{le-refl}
 use Rattle.ranks.specs.Ranks.{unions}
+use Rattle.state.specs.State.{mostObjects}
 use Rattle.state.specs.Survey.{surveyTo}
 use borrow.Author.Needs.{needs}
 use Rattle.state.proofs.locks.survey_objects.Statement.{statement}
@@ -15,7 +16,7 @@ unfolding surveyTo unions
 survey-range-requires c κs = (omega arith, omega arith, inl (le-refl _), refl)
 
 survey-range-requires-2 : tie.Need-survey-range-requires-2
-survey-range-requires-2 c κs = (omega arith, le-refl 128, inr (le-refl _), c .survey-range .ensures)
+survey-range-requires-2 c κs = (omega arith, le-refl mostObjects, inr (le-refl _), c .survey-range .ensures)
 
 returns : tie.Need-returns
 returns c = search needs
