@@ -6,13 +6,13 @@ use mathlib.Core.Logic.{_⊎_, inl, inr, ⊎-elim}
 use mathlib.Core.Bool.{Bool, true, false, _&&_}
 use mathlib.Core.List.{List, [], _++_}
 use Prim.Native.Nat.{ℕ, zero, suc, _+_, _*_, _≤_, _<_, min, zero-le}
-use native.Mathlib.Nat.{le-refl, eq-or-lt-of-le, le-of-suc-le-suc, mul-zero, mul-suc, mul-add}
+use native.Mathlib.Nat.{le-refl, eq-or-lt-of-le, le-of-suc-le-suc, add-zero, add-suc, mul-zero, mul-suc, mul-add}
 use native.Mathlib.Numerals.{add-one}
 use native.Mathlib.Omega.{arith}
 use lib.Dec.{leb}
 use lib.ListN.{length, length-append}
 use borrow.Author.Tests.{leb-true, leb-false}
-use Rattle.basics.specs.Choice.{_orElse_, clash, and-true, and-left, and-right, same-test, or-else-zero, or-else-not}
+use Rattle.basics.specs.Choice.{_orElse_, clash, and-true, and-left, and-right, and-assoc, same-test, or-else-zero, or-else-not}
 
 -- p holds at each of 1, .., n
 unfoldable pub every : ℕ → (ℕ → Bool) → Bool
@@ -85,6 +85,19 @@ every-and n p q =
     (every-true n q (λ i a b. and-right (p i) (q i) (every-at n (λ i. p i && q i) i e a b))))
     (λ e. every-true n (λ i. p i && q i) (λ i a b. and-true (p i) (q i)
     (every-at n p i (and-left (every n p) (every n q) e) a b) (every-at n q i (and-right (every n p) (every n q) e) a b)))
+
+-- n more, behind the first i
+pub every-split : (i n : ℕ) (p : ℕ → Bool) → every (i + n) p ≡ every i p && every n (λ k. p (i + k))
+unfolding every
+every-split i zero p = ap (λ (k : ℕ). every k p) (add-zero i) ∙ alone (every i p)
+  where
+    alone : (b : Bool) → b ≡ b && true
+    alone true = refl
+    alone false = refl
+every-split i (suc n) p =
+    ap (λ (k : ℕ). every k p) (add-suc i n)
+    ∙ ap₂ _&&_ (every-split i n p) (ap p (sym (add-suc i n)))
+    ∙ and-assoc (every i p) (every n (λ k. p (i + k))) (p (i + suc n))
 
 -- ---- the least: the greatest number that is at most `top` and each of them
 

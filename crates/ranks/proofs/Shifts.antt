@@ -7,7 +7,7 @@ use native.Mathlib.Omega.{arith}
 use lib.Dec.{eqb}
 use lib.Pow.{shl-exact, ones-split, ones-lt, high}
 use lib.Bits.{bitAnd, bitOr, bitXor, and-mask, and-zero-l}
-use Rattle.ranks.specs.Ranks.{member, with, without, butFirst, upTo}
+use Rattle.ranks.specs.Ranks.{member, with, without, butFirst, upTo, lessOne}
 
 -- the bit of a rank, as a shift makes it
 single : (i : ℕ) → suc i ≤ 64 → (1 * 2 ^ (suc i - 1)) % 2 ^ 64 ≡ 2 ^ i
@@ -43,3 +43,9 @@ up-to-is k l =
 pub but-first-is : (set d : ℕ) → d < 2 ^ 64 → (d + 1) % 2 ^ 64 ≡ set → bitAnd set d ≡ butFirst set
 but-first-is zero d l e = and-zero-l d ∙ refl
 but-first-is (suc n) d l e = let less : d ≡ suc n - 1 = omega arith in ap (bitAnd (suc n)) less
+
+-- below 1 the difference wraps, to a word of ones
+pub less-one-is : (set d : ℕ) → d < 2 ^ 64 → (d + 1) % 2 ^ 64 ≡ set → d ≡ lessOne set
+unfolding lessOne
+less-one-is zero d l e = omega arith
+less-one-is (suc n) d l e = omega arith

@@ -3,3 +3,4 @@ pub mod Ranks
 pub mod Bits
 pub mod RankLaws
 pub mod UnionLaws
+pub mod LessOneLaws

@@ -38,6 +38,9 @@ first k set = trailingZeros k set + 1
 abbrev pub union : ℕ → ℕ → ℕ
 union a b = bitOr a b
 
+abbrev pub common : ℕ → ℕ → ℕ
+common a b = bitAnd a b
+
 abbrev pub minus : ℕ → ℕ → ℕ
 minus a b = bitXor a (bitAnd a b)
 
@@ -61,6 +64,11 @@ atMostOne set = leb (size set) 1
 -- the ranks 1, .., k
 abbrev pub upTo : ℕ → ℕ
 upTo k = 2 ^ k - 1
+
+-- a set less one, as a number: the ranks before its first, and its others; of the empty set all ranks of a word
+unfoldable pub lessOne : ℕ → ℕ
+lessOne zero = upTo wordBits
+lessOne (suc n) = n
 
 -- the sets f 1, .., f n together
 unfoldable pub unions : ℕ → (ℕ → ℕ) → ℕ

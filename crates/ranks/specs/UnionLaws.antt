@@ -4,19 +4,19 @@ use mathlib.Core.Path.{_≡_, refl, sym, ap, ap₂, _∙_}
 use mathlib.Core.Logic.{_⊎_, inl, inr, ⊎-elim}
 use mathlib.Core.Bool.{Bool, true, false, _&&_, _||_}
 use Prim.Native.Nat.{ℕ, zero, suc, _+_, _-_, _*_, _/_, _%_, _^_, _≤_, _<_, min}
-use native.Mathlib.Nat.{eq-zero-or-pos, pow-suc, le-antisymm, mod-eq-of-lt}
+use native.Mathlib.Nat.{eq-zero-or-pos, pow-suc, le-antisymm, mod-eq-of-lt, add-zero, add-suc}
 use native.Mathlib.Numerals.{add-one}
 use native.Mathlib.Omega.{arith}
 use native.Mathlib.Decide.{decLe}
 use lib.Dec.{eqb, ltb}
 use lib.Pow.{pow-pos}
-use lib.Bits.{bitAnd, bitXor, and-step, and-self, and-mask, mask-lt, and-le-l, and-le-r, or-add-and, xor-add-and, xor-self, or-lt}
+use lib.Bits.{bitAnd, bitXor, and-step, and-self, and-mask, mask-lt, and-le-l, and-le-r, or-add-and, xor-add-and, xor-self, or-lt, or-comm, or-zero-r}
 use lib.Count.{ones-step, ones-le, trailingZeros}
 use borrow.Author.Tests.{eqb-true, eq-eqb, leb-true, le-leb, ltb-true, lt-ltb}
 use Rattle.basics.specs.Choice.{clash, same-test, and-true, and-left, and-right, or-right}
 use Rattle.basics.specs.Loops.{every, sum, oneIf, sum-same, sum-first}
 use Rattle.ranks.specs.Ranks.{bit, member, first, union, minus, butFirst, subset, size, atMostOne, upTo, unions}
-use Rattle.ranks.specs.Bits.{bit-lt, bit-zero, bit-suc, or-bit, trailing-set, trailing-lt, ones-pos}
+use Rattle.ranks.specs.Bits.{bit-lt, bit-zero, bit-suc, or-bit, same-bits, trailing-set, trailing-lt, ones-pos}
 use Rattle.ranks.specs.RankLaws.{member-bit, bit-member, member-zero, subset-member, member-subset, first-least, first-member, first-le}
 
 -- ---- the members of two sets together
@@ -112,10 +112,41 @@ empty-minus a b =
     (λ t. let e = eqb-true (minus a b) 0 t in eq-eqb both a (omega (arith, xor-add-and a both, and-le-l a both, and-le-r a both)))
     (λ t. eq-eqb (minus a b) 0 (ap (bitXor a) (eqb-true both a t) ∙ xor-self a))
 
+-- sets joined in another order
+pub union-assoc : (a b c : ℕ) → union (union a b) c ≡ union a (union b c)
+union-assoc a b c =
+    let k = a + b + c in
+    let ha : a < 2 ^ k = omega (arith, below-power k) in
+    let hb : b < 2 ^ k = omega (arith, below-power k) in
+    let hc : c < 2 ^ k = omega (arith, below-power k) in
+    same-bits k (union (union a b) c) (union a (union b c)) (or-lt k (union a b) c (or-lt k a b ha hb) hc) (or-lt k a (union b c) ha (or-lt k b c hb hc))
+    (λ i l. omega (arith, or-bit (union a b) c i, or-bit a b i, or-bit a (union b c) i, or-bit b c i))
+
+pub union-pairs : (a b c d : ℕ) → union (union a b) (union c d) ≡ union (union a c) (union b d)
+union-pairs a b c d =
+    union-assoc a b (union c d)
+    ∙ ap (union a) (sym (union-assoc b c d) ∙ ap (λ (n : ℕ). union n d) (or-comm b c) ∙ union-assoc c b d)
+    ∙ sym (union-assoc a c (union b d))
+
 -- one set more is joined
 pub unions-next : (n : ℕ) (f : ℕ → ℕ) → unions (n + 1) f ≡ union (unions n f) (f (suc n))
 unfolding unions
 unions-next n f = rw add-one
+
+-- n sets more, behind the first i
+pub unions-split : (i n : ℕ) (f : ℕ → ℕ) → union (unions i f) (unions n (λ k. f (i + k))) ≡ unions (i + n) f
+unfolding unions
+unions-split i zero f = or-zero-r (unions i f) ∙ ap (λ (k : ℕ). unions k f) (sym (add-zero i))
+unions-split i (suc n) f =
+    sym (union-assoc (unions i f) (unions n (λ k. f (i + k))) (f (i + suc n)))
+    ∙ ap₂ union (unions-split i n f) (ap f (add-suc i n)) ∙ ap (λ (k : ℕ). unions k f) (sym (add-suc i n))
+
+-- two sets at each, in one union or in two
+pub unions-both : (n : ℕ) (f g : ℕ → ℕ) → union (unions n f) (unions n g) ≡ unions n (λ k. union (f k) (g k))
+unfolding unions
+unions-both zero f g = refl
+unions-both (suc n) f g =
+    union-pairs (unions n f) (f (suc n)) (unions n g) (g (suc n)) ∙ ap (λ (s : ℕ). union s (union (f (suc n)) (g (suc n)))) (unions-both n f g)
 
 pub unions-empty : (n : ℕ) (f : ℕ → ℕ) → eqb (unions n f) 0 ≡ every n (λ i. eqb (f i) 0)
 unfolding unions every

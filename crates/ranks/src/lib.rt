@@ -62,6 +62,13 @@ pub fn union(a: RankSet, b: RankSet) -> RankSet
     a | b
 }
 
+// The ranks that both sets have.
+pub fn common(a: RankSet, b: RankSet) -> RankSet
+    ensures { λ r. ⌜ r ≡ R.common a b ⌝ }
+{
+    a & b
+}
+
 // Whether every rank of the first set is in the second.
 pub fn is_subset(a: RankSet, b: RankSet) -> bool
     ensures { λ r. ⌜ r ≡ R.subset a b ⌝ }
@@ -95,6 +102,13 @@ pub fn but_first(set: RankSet) -> RankSet
     ensures { λ r. ⌜ r ≡ R.butFirst set ⌝ }
 {
     set & std::num::wrapping_sub_u64(set, 1)
+}
+
+// The ranks before the set's first, and its others; all ranks where it is empty.
+pub fn less_one(set: RankSet) -> RankSet
+    ensures { λ r. ⌜ r ≡ R.lessOne set ⌝ }
+{
+    std::num::wrapping_sub_u64(set, 1)
 }
 
 // The ranks from 1 to the count.

@@ -2,160 +2,284 @@
 -- if and only if each object's do.
 -- Assumes nothing.
 use mathlib.Core.Path.{_≡_, refl, sym, ap, ap₂, _∙_}
-use mathlib.Core.Bool.{Bool, true, false, not, _&&_, _||_}
-use Prim.Native.Nat.{ℕ, suc, _≤_}
+use mathlib.Core.Logic.{_⊎_, inl, inr}
+use mathlib.Core.Bool.{Bool, true, false, _&&_, _||_}
+use mathlib.Core.List.{List}
+use Prim.Native.Nat.{ℕ, _+_, _-_, _^_, _≤_, _<_}
 use native.Mathlib.Omega.{arith}
+use native.Mathlib.Decide.{decLe}
 use lib.Dec.{eqb}
-use borrow.Author.Tests.{eqb-true, leb-false, eq-eqb, lt-leb, not-true}
-use Rattle.basics.specs.Choice.{if_then_else_, between, same-test, and-true, and-left, and-right, between-true, inside-between}
-use Rattle.basics.specs.Loops.{every, every-same, every-and, every-at, every-true}
+use lib.Bits.{bitAnd, and-zero-l, and-zero-r, or-zero-r}
+use borrow.Author.Tests.{eqb-true, eq-eqb, lt-leb}
+use Rattle.basics.specs.Choice.{between, same-test, and-true, and-left, and-right, or-right, between-true, inside-between}
+use Rattle.basics.specs.Loops.{every, every-at, every-true, every-split}
 use Rattle.basics.specs.Arrays.{at}
-use Rattle.ranks.specs.Ranks.{union, minus, butFirst, subset, atMostOne, upTo}
-use Rattle.ranks.specs.UnionLaws.{empty-union, empty-minus, but-first-at-most-one, unions-empty, unions-subset, subset-up-to}
-use lib.Bits.{bitAnd, and-zero-l, and-zero-r}
+use Rattle.ranks.specs.Ranks.{wordBits, isEmpty, union, common, minus, subset, atMostOne, upTo, lessOne, unions}
+use Rattle.ranks.specs.UnionLaws.{empty-union, empty-minus, unions-both, unions-split, unions-empty, unions-subset, subset-up-to, subset-le, empty-at-most-one}
+use Rattle.ranks.specs.LessOneLaws.{less-one-alone}
 use Rattle.state.specs.declared.State.{State}
 use Rattle.state.specs.declared.locks.Survey.{Survey}
-use Rattle.state.specs.State.{mostObjects, read, write, declared, declaredAny, holders}
+use Rattle.state.specs.State.{mostObjects, read, write, isObject, declared, declaredAny, holders, holdersAny}
 use Rattle.state.specs.WellFormed.{countsFit, processorsFit, declarationFits, declarationsFit, ofJobs, declaredOfJobs, aboveIdle, heldByActive, heldByRight, locksFit}
 use Rattle.state.specs.WellFormed.{lockedOnce, alone, writtenAlone, oneLockEach, writersAlone, waitsFit, marksFit, wellFormed}
-use Rattle.state.specs.Clauses.{Clauses, clauses, well-formed}
-use Rattle.state.specs.Survey.{objectWrong, isOutside, surveyTo, surveyOf}
+use Rattle.state.specs.Clauses.{Clauses, clauses, well-formed, counts-within}
+use Rattle.state.specs.Survey.{inOrder, blockSize, inBlocks, objectInOrder, heldOn, allOf, Surveyed}
 
-kept-empty : (t : Bool) (set : ℕ) → eqb (if t then set else 0) 0 ≡ not t || eqb set 0
-kept-empty true set = refl
-kept-empty false set = refl
+-- ---- one object
 
-not-not : (b : Bool) → not (not b) ≡ b
-not-not true = refl
-not-not false = refl
+two-by-two : (p q r s : Bool) → p && q && (r && s) ≡ p && r && (q && s)
+two-by-two true true r s = refl
+two-by-two true false true s = refl
+two-by-two true false false s = refl
+two-by-two false q r s = refl
 
-object-wrong-empty : (outside : Bool) (mr mw rd wr : ℕ)
-    → eqb (objectWrong outside mr mw rd wr) 0 ≡ subset rd mr && subset wr mw && alone rd wr && (not outside || eqb (union mr mw) 0)
-unfolding objectWrong
-object-wrong-empty outside mr mw rd wr =
-    let a = minus rd mr in
-    let b = minus wr mw in
-    let c = butFirst wr in
-    let d : ℕ = if not (eqb wr 0) then rd else 0 in
-    let e : ℕ = if outside then union mr mw else 0 in
-    empty-union (union (union a b) (union c d)) e
+-- nothing is wrong with the object if and only if it is in order: a set less one tells whether a write lock is alone
+pub object-in-order : (mr mw rd wr : ℕ) → rd < 2 ^ wordBits
+    → isEmpty (union (union (minus rd mr) (minus rd (lessOne wr))) (union (minus wr mw) (common wr (lessOne (union rd wr))))) ≡ inOrder mr mw rd wr
+object-in-order mr mw rd wr h =
+    let reading = subset rd mr in
+    let writing = subset wr mw in
+    let before = subset rd (lessOne wr) in
+    let apart = isEmpty (common wr (lessOne (union rd wr))) in
+    empty-union (union (minus rd mr) (minus rd (lessOne wr))) (union (minus wr mw) (common wr (lessOne (union rd wr))))
     ∙ ap₂ _&&_
-    (empty-union (union a b) (union c d)
-    ∙ ap₂ _&&_ (empty-union a b ∙ ap₂ _&&_ (empty-minus rd mr) (empty-minus wr mw))
-    (empty-union c d
-    ∙ ap₂ _&&_ (but-first-at-most-one wr) (kept-empty (not (eqb wr 0)) rd ∙ ap (λ (t : Bool). t || eqb rd 0) (not-not (eqb wr 0)))))
-    (kept-empty outside (union mr mw))
+    (empty-union (minus rd mr) (minus rd (lessOne wr)) ∙ ap₂ _&&_ (empty-minus rd mr) (empty-minus rd (lessOne wr)))
+    (empty-union (minus wr mw) (common wr (lessOne (union rd wr))) ∙ ap (λ (t : Bool). t && apart) (empty-minus wr mw))
+    ∙ two-by-two reading before writing apart
+    ∙ ap (λ (t : Bool). reading && writing && t) (less-one-alone rd wr h)
 
-inside-table : (objects o : ℕ) → 1 ≤ o → not (isOutside objects o) ≡ between 1 objects o
-inside-table objects o h =
-    same-test (not (isOutside objects o)) (between 1 objects o)
-    (λ t. inside-between 1 objects o h (omega (arith, leb-false (suc objects) o (not-true (isOutside objects o) t))))
-    (λ t. ap not (lt-leb (suc objects) o (omega (arith, between-true 1 objects o t))))
+-- an object without locks is in order
+pub unlocked-in-order : (mr mw rd wr : ℕ) → rd ≡ 0 → wr ≡ 0 → inOrder mr mw rd wr ≡ true
+unlocked-in-order mr mw rd wr r w =
+    ap₂ (inOrder mr mw) r w
+    ∙ and-true (subset 0 mr && subset 0 mw) (alone 0 0)
+    (and-true (subset 0 mr) (subset 0 mw) (eq-eqb (bitAnd 0 mr) 0 (and-zero-l mr)) (eq-eqb (bitAnd 0 mw) 0 (and-zero-l mw)))
+    (and-true (atMostOne 0) (isEmpty 0 || isEmpty 0) empty-at-most-one refl)
 
-module _ (s : State) where
-  abbrev seen : Survey
-  seen = surveyOf (s .«may_read») (s .«may_write») (s .readers) (s .writers) (s .counts .objects)
+-- ---- a block of objects more, behind the first i
 
-  pub wrong-empty : eqb (seen .wrong) 0 ≡ every mostObjects (heldByRight s) && every mostObjects (writtenAlone s) && every mostObjects (declarationFits s)
-  unfolding surveyTo
-  wrong-empty =
-      unions-empty mostObjects (λ o. objectWrong (isOutside (s .counts .objects) o) (at (s .«may_read») o) (at (s .«may_write») o) (at (s .readers) o) (at (s .writers) o))
-      ∙ every-same mostObjects (λ o. eqb (objectWrong (isOutside (s .counts .objects) o) (at (s .«may_read») o) (at (s .«may_write») o) (at (s .readers) o) (at (s .writers) o)) 0)
-      (λ o. heldByRight s o && writtenAlone s o && declarationFits s o)
-      (λ o h l. object-wrong-empty (isOutside (s .counts .objects) o) (at (s .«may_read») o) (at (s .«may_write») o) (at (s .readers) o) (at (s .writers) o)
-      ∙ ap (λ (t : Bool). heldByRight s o && writtenAlone s o && (t || eqb (declaredAny s o) 0)) (inside-table (s .counts .objects) o h))
-      ∙ every-and mostObjects (λ o. heldByRight s o && writtenAlone s o) (declarationFits s)
-      ∙ ap (λ (t : Bool). t && every mostObjects (declarationFits s)) (every-and mostObjects (heldByRight s) (writtenAlone s))
+module _ (mr mw rd wr : List ℕ) (i : ℕ) where
+  abbrev order : ℕ → Bool
+  order = objectInOrder mr mw rd wr
 
-  pub declared-within : subset (seen .declared) (upTo (s .counts .jobs)) ≡ every mostObjects (declaredOfJobs s)
-  unfolding surveyTo
-  declared-within =
-      unions-subset mostObjects (upTo (s .counts .jobs)) (declaredAny s)
-      ∙ every-same mostObjects (λ o. subset (declaredAny s o) (upTo (s .counts .jobs))) (declaredOfJobs s) (λ o h l. subset-up-to (s .counts .jobs) (declaredAny s o))
+  -- the locks of the block
+  abbrev pub blockLocks : ℕ
+  blockLocks = union (unions blockSize (λ k. at rd (i + k))) (unions blockSize (λ k. at wr (i + k)))
 
-  pub held-active : subset (seen .held) (s .active) ≡ every mostObjects (heldByActive s)
-  unfolding surveyTo
-  held-active = unions-subset mostObjects (s .active) (λ o. union (holders s read o) (holders s write o))
+  block-each : blockLocks ≡ unions blockSize (λ k. heldOn mr mw rd wr (i + k))
+  block-each = unions-both blockSize (λ k. at rd (i + k)) (λ k. at wr (i + k))
 
-  -- a write lock that is alone is no second lock of its holder
-  pub alone-once : writersAlone s ≡ true → oneLockEach s ≡ true
-  unfolding writersAlone oneLockEach
-  alone-once w = every-true mostObjects (lockedOnce s) (λ o h l.
-      go o (eqb (holders s write o) 0) refl (and-right (atMostOne (holders s write o)) (eqb (holders s write o) 0 || eqb (holders s read o) 0) (every-at mostObjects (writtenAlone s) o w h l)))
+  pub held-more : union (unions i (heldOn mr mw rd wr)) blockLocks ≡ unions (i + blockSize) (heldOn mr mw rd wr)
+  held-more = ap (union (unions i (heldOn mr mw rd wr))) block-each ∙ unions-split i blockSize (heldOn mr mw rd wr)
+
+  pub order-more : (wrong block : ℕ) → isEmpty wrong ≡ every i order → isEmpty block ≡ every blockSize (λ k. order (i + k))
+      → isEmpty (union wrong block) ≡ every (i + blockSize) order
+  order-more wrong block e f = empty-union wrong block ∙ ap₂ _&&_ e f ∙ sym (every-split i blockSize order)
+
+  -- a block without locks is in order
+  pub unlocked-more : (wrong : ℕ) → isEmpty wrong ≡ every i order → blockLocks ≡ 0 → isEmpty wrong ≡ every (i + blockSize) order
+  unlocked-more wrong e none =
+      ap isEmpty (sym (or-zero-r wrong)) ∙ order-more wrong 0 e (sym (every-true blockSize (λ k. order (i + k)) in-order))
     where
-      go : (o : ℕ) (t : Bool) → eqb (holders s write o) 0 ≡ t → t || eqb (holders s read o) 0 ≡ true → lockedOnce s o ≡ true
-      go o true e z =
-          eq-eqb (bitAnd (holders s read o) (holders s write o)) 0
-          (ap (bitAnd (holders s read o)) (eqb-true (holders s write o) 0 e) ∙ and-zero-r (holders s read o))
-      go o false e z =
-          eq-eqb (bitAnd (holders s read o) (holders s write o)) 0
-          (ap (λ (n : ℕ). bitAnd n (holders s write o)) (eqb-true (holders s read o) 0 z) ∙ and-zero-l (holders s write o))
+      all : every blockSize (λ k. isEmpty (heldOn mr mw rd wr (i + k))) ≡ true
+      all = sym (unions-empty blockSize (λ k. heldOn mr mw rd wr (i + k))) ∙ ap isEmpty (sym block-each) ∙ eq-eqb blockLocks 0 none
 
--- ---- the whole test
+      in-order : (k : ℕ) → 1 ≤ k → k ≤ blockSize → order (i + k) ≡ true
+      in-order k a b =
+          let both = sym (empty-union (at rd (i + k)) (at wr (i + k))) ∙ every-at blockSize (λ k. isEmpty (heldOn mr mw rd wr (i + k))) k all a b in
+          unlocked-in-order (at mr (i + k)) (at mw (i + k)) (at rd (i + k)) (at wr (i + k))
+          (eqb-true (at rd (i + k)) 0 (and-left (isEmpty (at rd (i + k))) (isEmpty (at wr (i + k))) both))
+          (eqb-true (at wr (i + k)) 0 (and-right (isEmpty (at rd (i + k))) (isEmpty (at wr (i + k))) both))
+
+-- ---- what the clauses ask of one object
+
+pub record ObjectFits (s : State) (o : ℕ) : Type 0 where
+  pub declaration : declarationFits s o ≡ true
+  pub jobs : declaredOfJobs s o ≡ true
+  pub active : heldByActive s o ≡ true
+  pub right : heldByRight s o ≡ true
+  pub alone : writtenAlone s o ≡ true
+
+-- a write lock that is alone is no second lock of its holder
+pub alone-once : (s : State) → writersAlone s ≡ true → oneLockEach s ≡ true
+unfolding writersAlone oneLockEach
+alone-once s w = every-true mostObjects (lockedOnce s) (λ o h l.
+    go o (eqb (holders s write o) 0) refl (and-right (atMostOne (holders s write o)) (eqb (holders s write o) 0 || eqb (holders s read o) 0) (every-at mostObjects (writtenAlone s) o w h l)))
+  where
+    go : (o : ℕ) (t : Bool) → eqb (holders s write o) 0 ≡ t → t || eqb (holders s read o) 0 ≡ true → lockedOnce s o ≡ true
+    go o true e z =
+        eq-eqb (bitAnd (holders s read o) (holders s write o)) 0
+        (ap (bitAnd (holders s read o)) (eqb-true (holders s write o) 0 e) ∙ and-zero-r (holders s read o))
+    go o false e z =
+        eq-eqb (bitAnd (holders s read o) (holders s write o)) 0
+        (ap (λ (n : ℕ). bitAnd n (holders s write o)) (eqb-true (holders s read o) 0 z) ∙ and-zero-l (holders s write o))
 
 pub bad-counts : (s : State) → countsFit s ≡ false → wellFormed s ≡ false
 unfolding wellFormed
 bad-counts s e = simp e
 
-module _ (s : State) (counts : countsFit s ≡ true) where
-  abbrev test : Bool
-  test =
-      eqb (seen s .wrong) 0 && subset (seen s .declared) (upTo (s .counts .jobs)) && subset (seen s .held) (s .active)
-      && subset (s .active) (upTo (s .counts .jobs)) && subset (s .unlocked) (s .active) && processorsFit s && waitsFit s
+-- ---- all objects
 
-  -- the test passes, so each clause holds
+module _ (s : State) (counts : countsFit s ≡ true) (seen : Survey) (outside : ℕ)
+    (S : Surveyed (s .«may_read») (s .«may_write») (s .readers) (s .writers) (s .counts .objects) seen)
+    (O : outside ≡ unions (mostObjects - s .counts .objects) (λ k. allOf (s .«may_read») (s .«may_write») (s .readers) (s .writers) (s .counts .objects + k))) where
+  -- how many objects are looked at in blocks
+  abbrev n : ℕ
+  n = inBlocks (s .counts .objects)
+
+  few : (s .counts .objects ≤ n) × (n ≤ mostObjects) × (s .counts .objects ≤ mostObjects)
+  few = let h = counts-within (s .counts) counts .objects in (omega arith, omega arith, h .1)
+
+  abbrev empty : ℕ → Bool
+  empty o = isEmpty (allOf (s .«may_read») (s .«may_write») (s .readers) (s .writers) o)
+
+  declared-each : subset (seen .declared) (upTo (s .counts .jobs)) ≡ every (s .counts .objects) (λ o. subset (declaredAny s o) (upTo (s .counts .jobs)))
+  declared-each = ap (λ (d : ℕ). subset d (upTo (s .counts .jobs))) (S .declared) ∙ unions-subset (s .counts .objects) (upTo (s .counts .jobs)) (declaredAny s)
+
+  held-each : subset (seen .held) (s .active) ≡ every n (heldByActive s)
+  held-each = ap (λ (h : ℕ). subset h (s .active)) (S .held) ∙ unions-subset n (s .active) (holdersAny s)
+
+  outside-each : isEmpty outside ≡ every (mostObjects - s .counts .objects) (λ k. empty (s .counts .objects + k))
+  outside-each = ap isEmpty O ∙ unions-empty (mostObjects - s .counts .objects) (λ k. allOf (s .«may_read») (s .«may_write») (s .readers) (s .writers) (s .counts .objects + k))
+
+  -- what is gathered, as the code tests it
+  abbrev gathered : Bool
+  gathered = isEmpty (seen .wrong) && isEmpty outside && subset (seen .declared) (upTo (s .counts .jobs)) && subset (seen .held) (s .active)
+
+  -- ---- the test passes, so each object fits
+
+  module _ (t : gathered ≡ true) where
+    abbrev t1 : Bool
+    t1 = isEmpty (seen .wrong)
+
+    abbrev t2 : Bool
+    t2 = t1 && isEmpty outside
+
+    abbrev t3 : Bool
+    t3 = t2 && subset (seen .declared) (upTo (s .counts .jobs))
+
+    p3 : t3 ≡ true
+    p3 = and-left t3 (subset (seen .held) (s .active)) t
+
+    p2 : t2 ≡ true
+    p2 = and-left t2 (subset (seen .declared) (upTo (s .counts .jobs))) p3
+
+    inside-fits : (o : ℕ) → 1 ≤ o → o ≤ s .counts .objects → ObjectFits s o
+    inside-fits o a b =
+        let l : o ≤ n = omega (arith, few) in
+        let order = every-at n (objectInOrder (s .«may_read») (s .«may_write») (s .readers) (s .writers)) o (sym (S .wrong) ∙ and-left t1 (isEmpty outside) p2) a l in
+        let within = every-at (s .counts .objects) (λ o. subset (declaredAny s o) (upTo (s .counts .jobs))) o (sym declared-each ∙ and-right t2 (subset (seen .declared) (upTo (s .counts .jobs))) p3) a b in
+        record {
+          declaration = ap (λ (x : Bool). x || isEmpty (declaredAny s o)) (inside-between 1 (s .counts .objects) o a b);
+          jobs = sym (subset-up-to (s .counts .jobs) (declaredAny s o)) ∙ within;
+          active = every-at n (heldByActive s) o (sym held-each ∙ and-right t3 (subset (seen .held) (s .active)) t) a l;
+          right = and-left (heldByRight s o) (writtenAlone s o) order;
+          alone = and-right (heldByRight s o) (writtenAlone s o) order;
+        }
+
+    outside-fits : (o : ℕ) → s .counts .objects < o → o ≤ mostObjects → ObjectFits s o
+    outside-fits o a b =
+        let here : s .counts .objects + (o - s .counts .objects) ≡ o = omega arith in
+        let none = ap empty (sym here)
+        ∙ every-at (mostObjects - s .counts .objects) (λ k. empty (s .counts .objects + k)) (o - s .counts .objects)
+        (sym outside-each ∙ and-right t1 (isEmpty outside) p2) (omega arith) (omega arith) in
+        let both = sym (empty-union (declaredAny s o) (holdersAny s o)) ∙ none in
+        let rights = and-left (isEmpty (declaredAny s o)) (isEmpty (holdersAny s o)) both in
+        let locks = and-right (isEmpty (declaredAny s o)) (isEmpty (holdersAny s o)) both in
+        let each = sym (empty-union (holders s read o) (holders s write o)) ∙ locks in
+        let order = unlocked-in-order (declared s read o) (declared s write o) (holders s read o) (holders s write o)
+        (eqb-true (holders s read o) 0 (and-left _ _ each)) (eqb-true (holders s write o) 0 (and-right (isEmpty (holders s read o)) _ each)) in
+        record {
+          declaration = or-right (isObject s o) (isEmpty (declaredAny s o)) rights;
+          jobs = ap (ofJobs s) (eqb-true (declaredAny s o) 0 rights) ∙ sym (subset-up-to (s .counts .jobs) 0) ∙ eq-eqb (bitAnd 0 (upTo (s .counts .jobs))) 0 (and-zero-l (upTo (s .counts .jobs)));
+          active = ap (λ (h : ℕ). subset h (s .active)) (eqb-true (holdersAny s o) 0 locks) ∙ eq-eqb (bitAnd 0 (s .active)) 0 (and-zero-l (s .active));
+          right = and-left (heldByRight s o) (writtenAlone s o) order;
+          alone = and-right (heldByRight s o) (writtenAlone s o) order;
+        }
+
+    pub each-fits : (o : ℕ) → 1 ≤ o → o ≤ mostObjects → ObjectFits s o
+    each-fits o a b = elim (decLe o (s .counts .objects)) [ yes l ↦ inside-fits o a l | no d ↦ outside-fits o (omega arith) b ]
+
+  -- ---- each object fits, so the test passes
+
+  module _ (fits : (o : ℕ) → 1 ≤ o → o ≤ mostObjects → ObjectFits s o) where
+    none-outside : (o : ℕ) → 1 ≤ o → s .counts .objects < o → o ≤ mostObjects → empty o ≡ true
+    none-outside o low a b =
+        let F = fits o low b in
+        let rights : declaredAny s o ≡ 0 = eqb-true (declaredAny s o) 0 (ap (λ (x : Bool). x || isEmpty (declaredAny s o)) (sym beyond) ∙ F .declaration) in
+        let each = sym (empty-union (declared s read o) (declared s write o)) ∙ eq-eqb (declaredAny s o) 0 rights in
+        let reading = subset-le (holders s read o) (declared s read o) (and-left _ _ (F .right)) in
+        let writing = subset-le (holders s write o) (declared s write o) (and-right (subset (holders s read o) (declared s read o)) _ (F .right)) in
+        let no-reader : holders s read o ≡ 0 = omega (arith, eqb-true (declared s read o) 0 (and-left _ _ each)) in
+        let no-writer : holders s write o ≡ 0 = omega (arith, eqb-true (declared s write o) 0 (and-right (isEmpty (declared s read o)) _ each)) in
+        empty-union (declaredAny s o) (holdersAny s o)
+        ∙ and-true _ _ (eq-eqb (declaredAny s o) 0 rights)
+        (empty-union (holders s read o) (holders s write o) ∙ and-true _ _ (eq-eqb (holders s read o) 0 no-reader) (eq-eqb (holders s write o) 0 no-writer))
+      where
+        beyond : isObject s o ≡ false
+        beyond = not-inside (isObject s o) refl
+          where
+            not-inside : (x : Bool) → isObject s o ≡ x → x ≡ false
+            not-inside true e = absurd (omega (arith, between-true 1 (s .counts .objects) o e))
+            not-inside false e = refl
+
+    pub fits-gathered : gathered ≡ true
+    fits-gathered =
+        let wrong = S .wrong ∙ every-true n (objectInOrder (s .«may_read») (s .«may_write») (s .readers) (s .writers))
+        (λ o a l. (let F = fits o a (omega (arith, few)) in and-true (heldByRight s o) (writtenAlone s o) (F .right) (F .alone))) in
+        let none = outside-each ∙ every-true (mostObjects - s .counts .objects) (λ k. empty (s .counts .objects + k))
+        (λ k a l. none-outside (s .counts .objects + k) (omega arith) (omega arith) (omega (arith, few))) in
+        let within = declared-each ∙ every-true (s .counts .objects) (λ o. subset (declaredAny s o) (upTo (s .counts .jobs)))
+        (λ o a l. subset-up-to (s .counts .jobs) (declaredAny s o) ∙ fits o a (omega (arith, few)) .jobs) in
+        let held = held-each ∙ every-true n (heldByActive s) (λ o a l. fits o a (omega (arith, few)) .active) in
+        simp (wrong, none, within, held)
+
+  -- ---- the whole test
+
+  abbrev test : Bool
+  test = gathered && subset (s .active) (upTo (s .counts .jobs)) && subset (s .unlocked) (s .active) && processorsFit s && waitsFit s
+
   test-clauses : test ≡ true → Clauses s
   unfolding declarationsFit aboveIdle locksFit writersAlone marksFit
   test-clauses t =
-      let t1 = eqb (seen s .wrong) 0 in
-      let t2 = t1 && subset (seen s .declared) (upTo (s .counts .jobs)) in
-      let t3 = t2 && subset (seen s .held) (s .active) in
-      let t4 = t3 && subset (s .active) (upTo (s .counts .jobs)) in
+      let t4 = gathered && subset (s .active) (upTo (s .counts .jobs)) in
       let t5 = t4 && subset (s .unlocked) (s .active) in
       let t6 = t5 && processorsFit s in
       let p6 = and-left t6 (waitsFit s) t in
       let p5 = and-left t5 (processorsFit s) p6 in
       let p4 = and-left t4 (subset (s .unlocked) (s .active)) p5 in
-      let p3 = and-left t3 (subset (s .active) (upTo (s .counts .jobs))) p4 in
-      let p2 = and-left t2 (subset (seen s .held) (s .active)) p3 in
-      let objects = sym (wrong-empty s) ∙ and-left t1 (subset (seen s .declared) (upTo (s .counts .jobs))) p2 in
-      let locks = and-left (every mostObjects (heldByRight s) && every mostObjects (writtenAlone s)) (every mostObjects (declarationFits s)) objects in
-      let alone-all = and-right (every mostObjects (heldByRight s)) (every mostObjects (writtenAlone s)) locks in
+      let fits = each-fits (and-left gathered (subset (s .active) (upTo (s .counts .jobs))) p4) in
+      let alone-all = every-true mostObjects (writtenAlone s) (λ o a b. fits o a b .alone) in
       record {
         counts = counts;
         processors = and-right t5 (processorsFit s) p6;
-        declarations = and-right (every mostObjects (heldByRight s) && every mostObjects (writtenAlone s)) (every mostObjects (declarationFits s)) objects;
+        declarations = every-true mostObjects (declarationFits s) (λ o a b. fits o a b .declaration);
         above =
             and-true (ofJobs s (s .active)) (every mostObjects (declaredOfJobs s))
-            (sym (subset-up-to (s .counts .jobs) (s .active)) ∙ and-right t3 (subset (s .active) (upTo (s .counts .jobs))) p4)
-            (sym (declared-within s) ∙ and-right t1 (subset (seen s .declared) (upTo (s .counts .jobs))) p2);
+            (sym (subset-up-to (s .counts .jobs) (s .active)) ∙ and-right gathered (subset (s .active) (upTo (s .counts .jobs))) p4)
+            (every-true mostObjects (declaredOfJobs s) (λ o a b. fits o a b .jobs));
         locks =
             and-true (every mostObjects (heldByActive s)) (every mostObjects (heldByRight s))
-            (sym (held-active s) ∙ and-right t2 (subset (seen s .held) (s .active)) p3)
-            (and-left (every mostObjects (heldByRight s)) (every mostObjects (writtenAlone s)) locks);
+            (every-true mostObjects (heldByActive s) (λ o a b. fits o a b .active)) (every-true mostObjects (heldByRight s) (λ o a b. fits o a b .right));
         once = alone-once s alone-all;
         alone = alone-all;
         waits = and-right t6 (waitsFit s) t;
         marks = and-right t4 (subset (s .unlocked) (s .active)) p5;
       }
 
-  -- each clause holds, so the test passes
   clauses-test : Clauses s → test ≡ true
   unfolding declarationsFit aboveIdle locksFit writersAlone marksFit
   clauses-test c =
-      let above = c .above in
-      let locks = c .locks in
-      let wrong : eqb (seen s .wrong) 0 ≡ true =
-      wrong-empty s ∙ and-true (every mostObjects (heldByRight s) && every mostObjects (writtenAlone s)) (every mostObjects (declarationFits s))
-      (and-true (every mostObjects (heldByRight s)) (every mostObjects (writtenAlone s)) (and-right (every mostObjects (heldByActive s)) (every mostObjects (heldByRight s)) locks) (c .alone))
-      (c .declarations) in
-      let within : subset (seen s .declared) (upTo (s .counts .jobs)) ≡ true =
-      declared-within s ∙ and-right (ofJobs s (s .active)) (every mostObjects (declaredOfJobs s)) above in
-      let held : subset (seen s .held) (s .active) ≡ true =
-      held-active s ∙ and-left (every mostObjects (heldByActive s)) (every mostObjects (heldByRight s)) locks in
+      let all : gathered ≡ true = fits-gathered (λ o a b. record {
+        declaration = every-at mostObjects (declarationFits s) o (c .declarations) a b;
+        jobs = every-at mostObjects (declaredOfJobs s) o (and-right (ofJobs s (s .active)) (every mostObjects (declaredOfJobs s)) (c .above)) a b;
+        active = every-at mostObjects (heldByActive s) o (and-left (every mostObjects (heldByActive s)) (every mostObjects (heldByRight s)) (c .locks)) a b;
+        right = every-at mostObjects (heldByRight s) o (and-right (every mostObjects (heldByActive s)) (every mostObjects (heldByRight s)) (c .locks)) a b;
+        alone = every-at mostObjects (writtenAlone s) o (c .alone) a b;
+      }) in
       let jobs : subset (s .active) (upTo (s .counts .jobs)) ≡ true =
-      subset-up-to (s .counts .jobs) (s .active) ∙ and-left (ofJobs s (s .active)) (every mostObjects (declaredOfJobs s)) above in
-      simp (wrong, within, held, jobs, c .marks, c .processors, c .waits)
+      subset-up-to (s .counts .jobs) (s .active) ∙ and-left (ofJobs s (s .active)) (every mostObjects (declaredOfJobs s)) (c .above) in
+      simp (all, jobs, c .marks, c .processors, c .waits)
 
   pub tests-well : test ≡ wellFormed s
   tests-well = same-test test (wellFormed s) (λ t. well-formed s (test-clauses t)) (λ w. clauses-test (clauses s w))

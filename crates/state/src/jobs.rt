@@ -1,10 +1,13 @@
 // What refusal 8 asks of the jobs: their processors, and what they wait for.
 ghost use mathlib.Core.Path.{_≡_};
 ghost use mathlib.Core.List.{[]};
-ghost use Prim.Native.Nat.{_≤_};
+ghost use Prim.Native.Nat.{_+_, _≤_};
+ghost use lib.Dec.{eqb};
+ghost use Rattle.basics.specs.Arrays.{at};
 ghost use Rattle.basics.specs.Choice.{between};
+ghost use Rattle.basics.specs.Loops.{every};
 ghost use Rattle.state.specs.State.{mostJobs, mostObjects, ofMode, stateOf};
-ghost use Rattle.state.specs.WellFormed.{countsWithin, processorsFit, mayAwait, waitsFit};
+ghost use Rattle.state.specs.WellFormed.{countsWithin, processorsFit, mayAwait, waitFits, waitsFit};
 ghost use Rattle.state.specs.State.{modeOfRequest, objectOfRequest};
 ghost use Rattle.state.specs.Survey.{mayAsk};
 use crate::Counts;
@@ -100,6 +103,61 @@ fn may_await<'a>(
         )
 }
 
+// Whether none of so many jobs, from an index on, waits.
+fn none_waits(request: &JobRequests, from: usize, count: usize) -> bool
+    requires { ⌜ from + count ≤ mostJobs ⌝ }
+    ensures { λ r. ⌜ r ≡ every count (λ k. eqb (at (now (request .entry)) (from + k)) 0) ⌝ }
+{
+    let mut any = 0;
+    let mut k = 0;
+    while k < count {
+        any = any | request[from + k];
+        k += 1;
+    }
+    any == 0
+}
+
+// Whether each of the four jobs from an index on may be waiting for its request, if it has one.
+fn four_fit<'a>(
+    counts: Counts,
+    may_read: Sets<'a>,
+    may_write: Sets<'a>,
+    active: RankSet,
+    unlocked: RankSet,
+    readers: Sets<'a>,
+    writers: Sets<'a>,
+    request: &'a JobRequests,
+    from: usize,
+) -> bool
+    requires { ⌜ (counts .objects ≤ mostObjects) × (from + 4 ≤ mostJobs) ⌝ }
+    ensures { λ r. ⌜ r ≡ every 4 (λ k. waitFits (stateOf counts [] (now («may_read» .entry)) (now («may_write» .entry)) active unlocked (now (readers .entry)) (now (writers .entry)) (now (request .entry))) (from + k)) ⌝ }
+{
+    if none_waits(request, from, 4) {
+        return true;
+    }
+    let mut k = 0;
+    while k < 4 {
+        let asked = request[from + k];
+        k += 1;
+        if asked != 0 {
+            if !may_await(
+                counts,
+                may_read,
+                may_write,
+                active,
+                unlocked,
+                readers,
+                writers,
+                asked,
+                (from + k) as u8,
+            ) {
+                return false;
+            }
+        }
+    }
+    true
+}
+
 // Whether each waiting job may be waiting for its request.
 pub fn waits_fit<'a>(
     counts: Counts,
@@ -114,25 +172,25 @@ pub fn waits_fit<'a>(
     requires { ⌜ counts .objects ≤ mostObjects ⌝ }
     ensures { λ r. ⌜ r ≡ waitsFit (stateOf counts [] (now («may_read» .entry)) (now («may_write» .entry)) active unlocked (now (readers .entry)) (now (writers .entry)) (now (request .entry))) ⌝ }
 {
-    let mut rank: u8 = 0;
-    while rank < 64 {
-        let asked = request[rank as usize];
-        rank += 1;
-        if asked != 0 {
-            if !may_await(
-                counts,
-                may_read,
-                may_write,
-                active,
-                unlocked,
-                readers,
-                writers,
-                asked,
-                rank,
-            ) {
-                return false;
-            }
+    if none_waits(request, 0, 64) {
+        return true;
+    }
+    let mut from = 0;
+    while from < 64 {
+        if !four_fit(
+            counts,
+            may_read,
+            may_write,
+            active,
+            unlocked,
+            readers,
+            writers,
+            request,
+            from,
+        ) {
+            return false;
         }
+        from += 4;
     }
     true
 }

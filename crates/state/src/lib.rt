@@ -13,6 +13,7 @@ use jobs::processors_fit;
 use jobs::waits_fit;
 pub use jobs::within;
 use locks::survey_objects;
+use locks::union_outside;
 use ranks::RankSet;
 
 // How many processors, jobs and objects a table has.
@@ -67,7 +68,9 @@ pub fn fits<'a>(
     }
     let all = ranks::up_to(counts.jobs);
     let seen = survey_objects(may_read, may_write, readers, writers, counts.objects);
+    let outside = union_outside(may_read, may_write, readers, writers, counts.objects);
     ranks::is_empty(seen.wrong)
+        & ranks::is_empty(outside)
         & ranks::is_subset(seen.declared, all)
         & ranks::is_subset(seen.held, active)
         & ranks::is_subset(active, all)

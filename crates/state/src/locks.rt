@@ -1,81 +1,82 @@
-// What refusal 8 asks of the objects, gathered in one pass over them.
+// What refusal 8 asks of the objects: those of the table in blocks of eight, and those outside it.
 ghost use mathlib.Core.Path.{_≡_};
-ghost use mathlib.Core.Logic.{_⊎_};
-ghost use Prim.Native.Nat.{_≤_};
+ghost use Prim.Native.Nat.{_+_, _-_, _≤_};
+ghost use Rattle.basics.specs.Arrays.{at};
+ghost use Rattle.basics.specs.Loops.{every};
+ghost use Rattle.ranks.specs.Ranks.{isEmpty, unions};
 ghost use Rattle.state.specs.State.{mostObjects};
-ghost use Rattle.state.specs.Survey.{objectWrong, surveyTo, surveyOf};
+ghost use Rattle.state.specs.Survey.{inOrder, blockSize, objectInOrder, allOf, Surveyed};
 use crate::Sets;
 use ranks::EMPTY;
 use ranks::RankSet;
-use ranks::kept;
 use ranks::union;
 
-// Of all objects together: the ranks declared, the ranks that hold a lock, and a set that is empty if each object by itself is in order.
+// Of several objects together: the ranks declared, the ranks that hold a lock, and a set that is empty if each object by itself is in order.
 pub struct Survey {
     pub declared: RankSet,
     pub held: RankSet,
     pub wrong: RankSet,
 }
 
-// Empty if one object's locks have their rights, a write lock is alone, and nothing is declared for an object outside the table.
+// Empty if one object's locks have their rights, and a write lock is alone.
 fn object_wrong(
-    outside: bool,
     may_read: RankSet,
     may_write: RankSet,
     readers: RankSet,
     writers: RankSet,
 ) -> RankSet
-    ensures { λ r. ⌜ r ≡ objectWrong outside «may_read» «may_write» readers writers ⌝ }
+    ensures { λ r. ⌜ isEmpty r ≡ inOrder «may_read» «may_write» readers writers ⌝ }
 {
-    let unrighted = union(
+    let reading = union(
         ranks::minus(readers, may_read),
+        ranks::minus(readers, ranks::less_one(writers)),
+    );
+    let writing = union(
         ranks::minus(writers, may_write),
+        ranks::common(writers, ranks::less_one(union(readers, writers))),
     );
-    let beside = union(
-        ranks::but_first(writers),
-        kept(!ranks::is_empty(writers), readers),
-    );
-    let unknown = kept(outside, union(may_read, may_write));
-    union(union(unrighted, beside), unknown)
+    union(reading, writing)
 }
 
-// What the objects up to `to` say together, where those up to `from` say `seen`, and those between are all inside the table or all outside.
-fn survey_range<'a>(
+// The ranks in so many sets, from an index on.
+fn union_of(sets: Sets, from: usize, count: usize) -> RankSet
+    requires { ⌜ from + count ≤ mostObjects ⌝ }
+    ensures { λ r. ⌜ r ≡ unions count (λ k. at (now (sets .entry)) (from + k)) ⌝ }
+{
+    let mut all = EMPTY;
+    let mut k = 0;
+    while k < count {
+        all = union(all, sets[from + k]);
+        k += 1;
+    }
+    all
+}
+
+// Empty if each object of the block from an index on is in order.
+fn block_wrong<'a>(
     may_read: Sets<'a>,
     may_write: Sets<'a>,
     readers: Sets<'a>,
     writers: Sets<'a>,
-    objects: u8,
-    seen: Survey,
     from: usize,
-    to: usize,
-) -> Survey
-    requires { ⌜ (from ≤ to) × (to ≤ mostObjects) × ((to ≤ objects) ⊎ (objects ≤ from))
-        × (seen ≡ surveyTo from (now («may_read»)) (now («may_write»)) (now readers) (now writers) objects) ⌝ }
-    ensures { λ r. ⌜ r ≡ surveyTo to (now («may_read» .entry)) (now («may_write» .entry)) (now (readers .entry)) (now (writers .entry)) objects ⌝ }
+) -> RankSet
+    requires { ⌜ from + blockSize ≤ mostObjects ⌝ }
+    ensures { λ r. ⌜ isEmpty r ≡ every blockSize (λ k. objectInOrder (now («may_read» .entry)) (now («may_write» .entry)) (now (readers .entry)) (now (writers .entry)) (from + k)) ⌝ }
 {
-    let outside = objects as usize <= from;
-    let mut declared = seen.declared;
-    let mut held = seen.held;
-    let mut wrong = seen.wrong;
-    let mut i = from;
-    while i < to {
-        declared = union(declared, union(may_read[i], may_write[i]));
-        held = union(held, union(readers[i], writers[i]));
+    let mut wrong = EMPTY;
+    let mut k = 0;
+    while k < 8 {
+        let i = from + k;
         wrong = union(
             wrong,
-            object_wrong(outside, may_read[i], may_write[i], readers[i], writers[i]),
+            object_wrong(may_read[i], may_write[i], readers[i], writers[i]),
         );
-        i += 1;
+        k += 1;
     }
-    Survey {
-        declared,
-        held,
-        wrong,
-    }
+    wrong
 }
 
-// What the objects of a table of so many objects say together: those inside, then those outside, so that no turn asks which.
+// What the objects of a table of so many objects say together. Locks are looked at in whole blocks, and one by one only where a block has some.
 pub fn survey_objects<'a>(
     may_read: Sets<'a>,
     may_write: Sets<'a>,
@@ -84,32 +85,49 @@ pub fn survey_objects<'a>(
     objects: u8,
 ) -> Survey
     requires { ⌜ objects ≤ mostObjects ⌝ }
-    ensures { λ r. ⌜ r ≡ surveyOf (now («may_read» .entry)) (now («may_write» .entry)) (now (readers .entry)) (now (writers .entry)) objects ⌝ }
+    ensures { λ r. ⌜ Surveyed (now («may_read» .entry)) (now («may_write» .entry)) (now (readers .entry)) (now (writers .entry)) objects r ⌝ }
 {
-    let none = Survey {
-        declared: EMPTY,
-        held: EMPTY,
-        wrong: EMPTY,
-    };
     let count = objects as usize;
-    let inside = survey_range(
-        may_read,
-        may_write,
-        readers,
-        writers,
-        objects,
-        none,
-        0,
-        count,
-    );
-    survey_range(
-        may_read,
-        may_write,
-        readers,
-        writers,
-        objects,
-        inside,
-        count,
-        128,
-    )
+    let declared = union(union_of(may_read, 0, count), union_of(may_write, 0, count));
+    let mut held = EMPTY;
+    let mut wrong = EMPTY;
+    let mut i = 0;
+    while i < count {
+        let locks = union(union_of(readers, i, 8), union_of(writers, i, 8));
+        if !ranks::is_empty(locks) {
+            held = union(held, locks);
+            wrong = union(wrong, block_wrong(may_read, may_write, readers, writers, i));
+        }
+        i += 8;
+    }
+    Survey {
+        declared,
+        held,
+        wrong,
+    }
+}
+
+// The ranks in all sets of the objects outside a table of so many objects.
+pub fn union_outside<'a>(
+    may_read: Sets<'a>,
+    may_write: Sets<'a>,
+    readers: Sets<'a>,
+    writers: Sets<'a>,
+    objects: u8,
+) -> RankSet
+    requires { ⌜ objects ≤ mostObjects ⌝ }
+    ensures { λ r. ⌜ r ≡ unions (mostObjects - objects) (λ k. allOf (now («may_read» .entry)) (now («may_write» .entry)) (now (readers .entry)) (now (writers .entry)) (objects + k)) ⌝ }
+{
+    let from = objects as usize;
+    let count = 128 - from;
+    let mut all = EMPTY;
+    let mut k = 0;
+    while k < count {
+        let i = from + k;
+        let declared = union(may_read[i], may_write[i]);
+        let held = union(readers[i], writers[i]);
+        all = union(all, union(declared, held));
+        k += 1;
+    }
+    all
 }
