@@ -15,10 +15,10 @@ use Rattle.state.specs.Changes.{overTable, Same, grant-others, grant-same}
 use Rattle.state.specs.Keeping.{NoConflict, unheld, writable, read-granted, write-granted}
 use Rattle.state.specs.Modes.{Mode}
 use Rattle.weights.specs.Weights.{weight}
+use Rattle.weights.specs.WeightLaws.{read-own, read-writer, write-writer, write-any, write-below-read, weight-small}
 use Rattle.weights.specs.Keys.{noWeight}
 use Rattle.theory.specs.Machine.{Passes, Took}
-use Rattle.promises.specs.Weights.{weightIf, read-own, read-writer, write-writer, write-any, write-below-read, weight-small}
-use Rattle.promises.specs.Weights.{lockWeight, lock-below}
+use Rattle.promises.specs.Weights.{weightIf, lockWeight, lock-below}
 use Rattle.promises.specs.View.{asNumber}
 
 -- ---- of a job of which two states over one table say the same
