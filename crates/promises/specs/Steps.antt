@@ -20,6 +20,7 @@ use Rattle.state.specs.Changes.{release-others, release-none, release-same}
 use Rattle.state.specs.Keeping.{activate-keeps, await-keeps, release-keeps, end-keeps, grant-keeps}
 use Rattle.weights.specs.Keys.{noWeight, keyHolder, keyObject, lowestKey}
 use Rattle.rule.specs.Granting.{passes, reason, wakeable}
+use Rattle.rule.specs.Conflicts.{no-conflict}
 use Rattle.events.specs.declared.Outcome.{Outcome}
 use Rattle.events.specs.declared.Answer.the-variants.{Granted, Waits, Refused}
 use Rattle.events.specs.Answers.{Paper, paper}
@@ -32,7 +33,7 @@ use Rattle.theory.specs.Build.{labelled, refused-step, start-step, grant-step, 
 use Rattle.promises.specs.Terms.{happened, labelOf}
 use Rattle.promises.specs.Weights.{passes-all, fails-blocked}
 use Rattle.promises.specs.View.{asNumber, view}
-use Rattle.promises.specs.Frames.{weight-frame, requested-frame, active-frame, unlocked-frame, no-weight, no-conflict, took-grant}
+use Rattle.promises.specs.Frames.{weight-frame, requested-frame, active-frame, unlocked-frame, no-weight, took-grant}
 use Rattle.promises.specs.Waking.{wake-keeps}
 use Rattle.promises.specs.AcceptedEvent.{AcceptedEvent, not-refused, not-waiting, read-facts, write-facts}
 
@@ -77,7 +78,7 @@ module _ (s : State) (F : Facts s) (r : ℕ) (low : 1 ≤ r) (high : r ≤ s .co
     unfolding grant
     grant-goes mode e =
         let pass = passes-all s F r small e in (
-          grant-keeps s F r low high m o A (no-conflict s F r low high m o A pass),
+          grant-keeps s F r low high m o A (no-conflict s F r low high m o A e),
           grant-step r o mode may (free none) (λ x. refl) (λ x. refl) (took-grant s F r low high m o A pass)
               (λ x. elim (ℕ-discrete r x) [
                 | yes q ↦ subst (λ y. requestedObject (grant s m r o) y ≡ requestedObject s y) q

@@ -17,13 +17,14 @@ use Rattle.state.specs.WellFormedFacts.{waiting-rank}
 use Rattle.state.specs.Changes.{grant-request, grant-same}
 use Rattle.state.specs.Keeping.{grant-keeps}
 use Rattle.rule.specs.Granting.{passes, wakes, wakeable}
+use Rattle.rule.specs.Conflicts.{no-conflict}
 use Rattle.rule.specs.WakeLaws.{FoundAt, Found, wakeable-found, wakes-is}
 use Rattle.events.specs.Events.{woken}
 use Rattle.theory.specs.Machine.{Passes, Blocked}
 use Rattle.theory.specs.Build.{Woke}
 use Rattle.promises.specs.Weights.{lockWeight, passes-all, fails-blocked, blocked-fails}
 use Rattle.promises.specs.View.{view, requested-waits, waits-requested, waiting-below}
-use Rattle.promises.specs.Frames.{requested-frame, no-conflict, took-grant}
+use Rattle.promises.specs.Frames.{requested-frame, took-grant}
 
 -- ---- one waiting job
 
@@ -68,7 +69,7 @@ module _ (s : State) where
       one-keeps : Facts (grant s (requestedMode s w) w (requestedObject s w))
       one-keeps =
           grant-keeps s F w (W .low) (W .high) (requestedMode s w) (requestedObject s w) request
-          (no-conflict s F w (W .low) (W .high) (requestedMode s w) (requestedObject s w) request pass)
+          (no-conflict s F w (W .low) (W .high) (requestedMode s w) (requestedObject s w) request (wakes-is s w (W .low) (W .itself) .1))
 
       one-woke : Woke (view s) w (view (grant s (requestedMode s w) w (requestedObject s w)))
       unfolding grant
