@@ -25,6 +25,7 @@ use Rattle.inheritance.specs.Running as R
 use Rattle.inheritance.specs.Running.{inheritedFrom, isReady, readyKey, runningRank}
 use Rattle.events.specs.Answers.{paper}
 use Rattle.refusals.specs.Refusals.{isRequest, modeOf, refusal, processorRefusal}
+use Rattle.refusals.specs.AcceptedEvent.{not-refused}
 use Rattle.events.specs.Events.{requestMeeting, request}
 use Rattle.manager.specs.Step.{step, step-accepted}
 use Rattle.basics.specs.Replies.{value}
@@ -35,7 +36,6 @@ use Rattle.promises.specs.Terms.{named, oldRequest}
 use Rattle.promises.specs.Weights.{lockWeight, lock-below, lock-held}
 use Rattle.promises.specs.View.{as-number-true, view, waits-requested, no-request, names-lowest, seen}
 use Rattle.promises.specs.Requests.{accepted-request, refused-number}
-use Rattle.promises.specs.AcceptedEvent.{not-refused}
 use Rattle.promises.specs.ReachedStates.{Kept}
 
 -- ---- the two weights

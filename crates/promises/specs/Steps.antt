@@ -25,6 +25,7 @@ use Rattle.events.specs.declared.Outcome.{Outcome}
 use Rattle.events.specs.declared.Answer.the-variants.{Granted, Waits, Refused}
 use Rattle.events.specs.Answers.{Paper, paper}
 use Rattle.refusals.specs.Refusals.{modeOf, refusal}
+use Rattle.refusals.specs.AcceptedEvent.{AcceptedEvent, not-refused, not-waiting, read-facts, write-facts}
 use Rattle.events.specs.Events.{outcome, requestMeeting, request, woken, wake, finish, accepted}
 use Rattle.manager.specs.Step.{step}
 use Rattle.theory.specs.Words.{Label}
@@ -35,7 +36,6 @@ use Rattle.promises.specs.Weights.{passes-all, fails-blocked}
 use Rattle.promises.specs.View.{asNumber, view}
 use Rattle.promises.specs.Frames.{weight-frame, requested-frame, active-frame, unlocked-frame, no-weight, took-grant}
 use Rattle.promises.specs.Waking.{wake-keeps}
-use Rattle.promises.specs.AcceptedEvent.{AcceptedEvent, not-refused, not-waiting, read-facts, write-facts}
 
 -- what is shown of an event with this label that goes from s to t
 abbrev pub Goes : State → Label → State → Type 0
