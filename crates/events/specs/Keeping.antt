@@ -5,7 +5,6 @@ use mathlib.Core.Logic.{inl, inr}
 use mathlib.Core.Bool.{Bool, true, false}
 use Prim.Native.Nat.{ℕ, zero, suc, _≤_}
 use native.Mathlib.Omega.{arith}
-use lib.Dec.{eqb}
 use borrow.Author.Tests.{ne-eqb, not-false}
 use Rattle.basics.specs.Choice.{if_then_else_, between-true}
 use Rattle.state.specs.declared.State.{State}
@@ -39,19 +38,21 @@ module _ (s : State) (F : Facts s) (r : ℕ) (low : 1 ≤ r) (high : r ≤ s .co
 
 -- ---- the search for a waiting job
 
--- it finds nobody, or a job whose request passes, which gets its lock
+-- a job that is woken gets the lock that it asked for
+pub woken-granted : (s : State) (w : ℕ) → 1 ≤ w → woken s w ≡ grant s (requestedMode s w) w (requestedObject s w)
+unfolding woken
+woken-granted s w low = simp (ne-eqb w 0 (λ e. omega arith))
+
+-- it finds nobody, or a job whose request passes
 pub woken-keeps : (s : State) → Facts s → Facts (woken s (wakeable s))
 unfolding woken
 woken-keeps s F = go (wakeable s) (wakeable-found s)
   where
-    after : ℕ → State
-    after w = if eqb w 0 then s else grant s (requestedMode s w) w (requestedObject s w)
-
-    go : (w : ℕ) → Found (s .counts .jobs) (wakes s) w → Facts (after w)
-    go w (inl z) = subst (λ v. Facts (after v)) (sym (z .0)) F
+    go : (w : ℕ) → Found (s .counts .jobs) (wakes s) w → Facts (woken s w)
+    go w (inl z) = subst (λ v. Facts (woken s v)) (sym (z .0)) F
     go w (inr W) =
         let is = wakes-is s w (W .low) (W .itself) in
-        subst (λ b. Facts (if b then s else grant s (requestedMode s w) w (requestedObject s w))) (sym (ne-eqb w 0 (λ q. omega (arith, W .low))))
+        subst Facts (sym (woken-granted s w (W .low)))
         (passed-keeps s F w (W .low) (W .high) (requestedMode s w) (requestedObject s w) (F .requests w (is .0)) (is .1))
 
 -- ---- the rules of the kinds
@@ -75,7 +76,7 @@ accepted-keeps s F (suc (suc (suc (suc (suc (suc (suc k))))))) r o A =
 
 -- ---- any event
 
--- refused, it returns the state handed in
+-- of any kind or none, refused or not
 pub perform-keeps : (s : State) → Facts s → (k r o : ℕ) → Facts (perform s k r o .state)
 unfolding perform
 perform-keeps s F k r o = go (eventRefusal s k r o) refl

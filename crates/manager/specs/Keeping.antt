@@ -1,4 +1,4 @@
--- An event leaves a well-formed state where it found one, by the facts of a well-formed state and by the test for one.
+-- An event in a well-formed state, of whatever numbers, leaves a well-formed state: by the facts of such a state, then by the test for one.
 -- Assumes nothing.
 use Prim.Native.Nat.{ℕ}
 use mathlib.Core.Path.{_≡_, sym, subst}
@@ -15,6 +15,5 @@ pub step-keeps : (s : State) → Facts s → (k r o : ℕ) → Facts (step s k r
 step-keeps s F k r o =
     subst (λ (x : Outcome). Facts (x .state)) (sym (step-performs s k r o (facts-well-formed s F))) (perform-keeps s F k r o)
 
--- so that "8 the state handed in isn't well formed" is never the manager's own doing
 pub step-well-formed : (s : State) → Sized s → wellFormed s ≡ true → (k r o : ℕ) → wellFormed (step s k r o .state) ≡ true
 step-well-formed s z w k r o = facts-well-formed (step s k r o .state) (step-keeps s (facts s z w) k r o)
