@@ -3,7 +3,7 @@
 use mathlib.Core.Path.{_≡_, refl, sym, subst, ap, ap₂, _∙_}
 use mathlib.Core.Logic.{_≢_, inl, inr}
 use mathlib.Core.Bool.{Bool, true, false}
-use Prim.Native.Nat.{ℕ, _≤_, _<_, min}
+use Prim.Native.Nat.{ℕ, _≤_, min}
 use native.Mathlib.Omega.{arith}
 use native.Mathlib.Decide.{ℕ-discrete}
 use Rattle.ranks.specs.Ranks.{member}
@@ -12,13 +12,12 @@ use Rattle.state.specs.declared.State.{State}
 use Rattle.state.specs.State.{read, write, declared, holders, holds, isActive, hasUnlocked, requestedObject, objectOfRequest, grant}
 use Rattle.state.specs.Facts.{In, RequestFacts, Facts}
 use Rattle.state.specs.Changes.{overTable, Same, grant-others, grant-same}
-use Rattle.state.specs.Keeping.{NoConflict, unheld, writable, read-granted, write-granted}
-use Rattle.state.specs.Modes.{Mode}
+use Rattle.state.specs.Keeping.{unheld, writable, read-granted, write-granted}
 use Rattle.weights.specs.Weights.{weight}
+use Rattle.weights.specs.WeightLaws.{read-own, write-writer, write-below-read, weight-small}
 use Rattle.weights.specs.Keys.{noWeight}
 use Rattle.theory.specs.Machine.{Passes, Took}
-use Rattle.promises.specs.Weights.{weightIf, read-own, read-writer, write-writer, write-any, write-below-read, weight-small}
-use Rattle.promises.specs.Weights.{lockWeight, lock-below}
+use Rattle.promises.specs.Weights.{weightIf, lockWeight, lock-below}
 use Rattle.promises.specs.View.{asNumber}
 
 -- ---- of a job of which two states over one table say the same
@@ -50,17 +49,6 @@ no-weight s r o h = ap₂ (λ a b. min (weightIf a (weight s read r o)) (weightI
 
 module _ (s : State) (F : Facts s) (r : ℕ) (low : 1 ≤ r) (high : r ≤ s .counts .jobs) (m o : ℕ) (A : RequestFacts s m r o)
     (pass : Passes (lockWeight s) r) where
-  -- a request that passes conflicts with no lock of another job: each such lock weighs at least as urgent as r
-  pub no-conflict : NoConflict s m r o
-  no-conflict = record {
-    none-alone = λ x d i. omega (arith, meets x d write (inr refl) i, write-any s m r x o (A .right));
-    no-writer = λ k x d i. omega (arith, meets x d write (inr refl) i, write-writer s r x o (writable s F r low high m o A k));
-    no-reader = λ k x d i. omega (arith, meets x d read (inl refl) i, read-writer s r x o (writable s F r low high m o A k));
-  }
-    where
-      meets : (x : ℕ) → r ≢ x → (n : ℕ) → Mode n → holds s n x o ≡ true → r < weight s n x o
-      meets x d n k i = omega (arith, pass x o (λ q. d (sym q)), lock-below s n x o k i)
-
   -- r's new lock weighs at least as urgent as r, and as what r held there before
   lighter : (lockWeight (overTable s (grant s m r o)) r o ≤ r) × (lockWeight (overTable s (grant s m r o)) r o ≤ lockWeight s r o)
   lighter = elim (ℕ-discrete m read) [ yes e ↦ reading e | no d ↦ writing d ]

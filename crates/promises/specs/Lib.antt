@@ -5,7 +5,6 @@ pub mod Weights
 pub mod View
 pub mod Frames
 pub mod Waking
-pub mod AcceptedEvent
 pub mod Requests
 pub mod Steps
 pub mod ReachedStates

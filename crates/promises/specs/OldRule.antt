@@ -17,6 +17,7 @@ use Rattle.state.specs.Facts.{Facts}
 use Rattle.state.specs.Modes.{either-mode}
 use Rattle.state.specs.WellFormedFacts.{facts-well-formed, held-rank}
 use Rattle.weights.specs.Weights.{writeCeiling, absoluteCeiling, moreUrgent, weight, oldWeight}
+use Rattle.weights.specs.WeightLaws.{weight-small}
 use Rattle.weights.specs.Keys.{noWeight, noKey, keyWeight, keyHolder, lowestKey, oldLowestKey}
 use Rattle.weights.specs.KeyLaws.{OthersLock, KeyOfOther, key-below, key-top, key-at, le-key}
 use Rattle.rule.specs.Granting.{passes, oldPasses, namedKey}
@@ -24,6 +25,7 @@ use Rattle.inheritance.specs.Running as R
 use Rattle.inheritance.specs.Running.{inheritedFrom, isReady, readyKey, runningRank}
 use Rattle.events.specs.Answers.{paper}
 use Rattle.refusals.specs.Refusals.{isRequest, modeOf, refusal, processorRefusal}
+use Rattle.refusals.specs.AcceptedEvent.{not-refused}
 use Rattle.events.specs.Events.{requestMeeting, request}
 use Rattle.manager.specs.Step.{step, step-accepted}
 use Rattle.basics.specs.Replies.{value}
@@ -31,10 +33,9 @@ use Rattle.questions.specs.Answers.{rankReply}
 use Rattle.questions.specs.Questions.{askRunning}
 use Rattle.theory.specs.Keeps.{TopHolder, named-top, top-not-waiting}
 use Rattle.promises.specs.Terms.{named, oldRequest}
-use Rattle.promises.specs.Weights.{lockWeight, lock-below, weight-small, lock-held}
+use Rattle.promises.specs.Weights.{lockWeight, lock-below, lock-held}
 use Rattle.promises.specs.View.{as-number-true, view, waits-requested, no-request, names-lowest, seen}
 use Rattle.promises.specs.Requests.{accepted-request, refused-number}
-use Rattle.promises.specs.AcceptedEvent.{not-refused}
 use Rattle.promises.specs.ReachedStates.{Kept}
 
 -- ---- the two weights

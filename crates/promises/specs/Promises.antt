@@ -19,6 +19,7 @@ use Rattle.rule.specs.Granting.{passes, wakeable}
 use Rattle.rule.specs.GrantingTheorems.{MoreUrgentThanOthers, FirstOfOthers}
 use Rattle.events.specs.Answers.{paper}
 use Rattle.refusals.specs.Refusals.{isRequest, modeOf}
+use Rattle.manager.specs.Keeping.{step-keeps, step-well-formed}
 use Rattle.basics.specs.Replies.{value}
 use Rattle.questions.specs.Answers.{rankReply}
 use Rattle.questions.specs.Questions.{askRunning}
@@ -62,8 +63,7 @@ list-reached s r (e ∷ es) (suc t) = list-reached (next s e) (after r e) es t
 -- is never the manager's own doing.
 pub keeps-well-formed : (s : State) → Sized s → wellFormed s ≡ true → (e : Event) → Sized (next s e) × (wellFormed (next s e) ≡ true)
 keeps-well-formed s z w e =
-    let F = step-goes s (facts s z w) (e .kind) (e .rank) (e .object) .0 in
-    (F .sized, facts-well-formed (next s e) F)
+    (step-keeps s (facts s z w) (e .kind) (e .rank) (e .object) .sized, step-well-formed s z w (e .kind) (e .rank) (e .object))
 
 pub reached-well-formed : {t : State} → Reached t → wellFormed t ≡ true
 reached-well-formed {t} r = facts-well-formed t (kept r .facts)
@@ -90,8 +90,9 @@ pub no-second-request-passes : (s : State) → Sized s → wellFormed s ≡ true
     → (e : Event) → between 4 6 (e .kind) ≡ true → paper (outcomeOf s e .answer) .number ≡ 3
     → (j : ℕ) → isWaiting (next s e) j ≡ true → passes (next s e) j ≡ false
 no-second-request-passes s z w e kind done =
-    let goes = step-goes s (facts s z w) (e .kind) (e .rank) (e .object) in
-    blocked-not-woken (next s e) (goes .0) (none-passes (goes .1) (done-kind (e .kind) (paper (outcomeOf s e .answer)) kind done))
+    let F = facts s z w in
+    blocked-not-woken (next s e) (step-keeps s F (e .kind) (e .rank) (e .object))
+    (none-passes (step-goes s F (e .kind) (e .rank) (e .object)) (done-kind (e .kind) (paper (outcomeOf s e .answer)) kind done))
 
 pub no-second-one : (s : State) → Sized s → wellFormed s ≡ true
     → (e : Event) → between 4 6 (e .kind) ≡ true → paper (outcomeOf s e .answer) .number ≡ 3 → wakeable (next s e) ≡ 0

@@ -10,6 +10,7 @@ use Rattle.state.specs.Facts.{Sized, Facts}
 use Rattle.state.specs.WellFormedFacts.{facts}
 use Rattle.table.specs.Fresh.{Fresh}
 use Rattle.weights.specs.Keys.{noWeight}
+use Rattle.manager.specs.Keeping.{step-keeps}
 use Rattle.theory.specs.Machine.{FreshView, Invariant, fresh-invariant}
 use Rattle.theory.specs.Keeps.{step-invariant}
 use Rattle.theory.specs.Lists.{Manages}
@@ -49,13 +50,15 @@ pub kept : {t : State} → Reached t → Kept t
 kept (fresh z f) = record { facts = fresh-facts z f; invariant = fresh-invariant (fresh-view z f) }
 kept (after {s} r e) =
     let k = kept r in
-    let g = step-goes s (k .facts) (e .kind) (e .rank) (e .object) in
-    record { facts = g .0; invariant = step-invariant (g .1) (k .invariant) }
+    record {
+      facts = step-keeps s (k .facts) (e .kind) (e .rank) (e .object);
+      invariant = step-invariant (step-goes s (k .facts) (e .kind) (e .rank) (e .object)) (k .invariant);
+    }
 
 -- what the theory asks of the manager
 pub manages : Manages next label view noWeight (mostObjects + 1) Facts
 manages = record {
-  keeps = λ s e F. step-goes s F (e .kind) (e .rank) (e .object) .0;
-  steps = λ s e F. step-goes s F (e .kind) (e .rank) (e .object) .1;
+  keeps = λ s e F. step-keeps s F (e .kind) (e .rank) (e .object);
+  steps = λ s e F. step-goes s F (e .kind) (e .rank) (e .object);
   seen = seen;
 }

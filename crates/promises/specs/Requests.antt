@@ -18,8 +18,8 @@ use Rattle.rule.specs.GrantingTheorems.{MoreUrgentThanOthers, FirstOfOthers, st
 use Rattle.events.specs.Answers.{Paper, paper}
 use Rattle.events.specs.Events.{requestMeeting, request, accepted}
 use Rattle.refusals.specs.Refusals.{isRequest, modeOf, refusal}
+use Rattle.refusals.specs.AcceptedEvent.{not-refused}
 use Rattle.manager.specs.Step.{step, step-accepted}
-use Rattle.promises.specs.AcceptedEvent.{not-refused}
 
 -- an accepted request is a request of the rule
 pub accepted-request : (s : State) (k r o : ℕ) → isRequest k ≡ true → accepted s k r o ≡ request s (modeOf k) r o

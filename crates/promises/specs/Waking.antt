@@ -1,4 +1,4 @@
--- The search for a waiting job after a release: who is woken, and that it keeps the facts and is a search as the theory asks.
+-- The search for a waiting job after a release: who is woken, and that it is a search as the theory asks.
 -- Assumes nothing.
 use mathlib.Core.Path.{_≡_, refl, sym, subst, ap, _∙_}
 use mathlib.Core.Logic.{_≢_, inl, inr}
@@ -15,15 +15,15 @@ use Rattle.state.specs.State.{requestOf, isWaiting, requestedMode, requestedObj
 use Rattle.state.specs.Facts.{RequestFacts, Facts}
 use Rattle.state.specs.WellFormedFacts.{waiting-rank}
 use Rattle.state.specs.Changes.{grant-request, grant-same}
-use Rattle.state.specs.Keeping.{grant-keeps}
 use Rattle.rule.specs.Granting.{passes, wakes, wakeable}
 use Rattle.rule.specs.WakeLaws.{FoundAt, Found, wakeable-found, wakes-is}
 use Rattle.events.specs.Events.{woken}
+use Rattle.events.specs.Keeping.{woken-granted}
 use Rattle.theory.specs.Machine.{Passes, Blocked}
 use Rattle.theory.specs.Build.{Woke}
 use Rattle.promises.specs.Weights.{lockWeight, passes-all, fails-blocked, blocked-fails}
 use Rattle.promises.specs.View.{view, requested-waits, waits-requested, waiting-below}
-use Rattle.promises.specs.Frames.{requested-frame, no-conflict, took-grant}
+use Rattle.promises.specs.Frames.{requested-frame, took-grant}
 
 -- ---- one waiting job
 
@@ -65,11 +65,6 @@ module _ (s : State) where
           requested-frame s (grant s (requestedMode s w) w (requestedObject s w)) x
           (grant-same s F w (requestedMode s w) (requestedObject s w) request x d)
 
-      one-keeps : Facts (grant s (requestedMode s w) w (requestedObject s w))
-      one-keeps =
-          grant-keeps s F w (W .low) (W .high) (requestedMode s w) (requestedObject s w) request
-          (no-conflict s F w (W .low) (W .high) (requestedMode s w) (requestedObject s w) request pass)
-
       one-woke : Woke (view s) w (view (grant s (requestedMode s w) w (requestedObject s w)))
       unfolding grant
       one-woke = record {
@@ -88,19 +83,14 @@ module _ (s : State) where
         unlocked-same = λ x. refl;
       }
 
-    -- the search keeps the facts, and wakes as the theory asks
-    abbrev Woken : ℕ → State → Type 0
-    Woken w t = Facts t × Woke (view s) w (view t)
-
-    pub wake-keeps : Woken (wakeable s) (woken s (wakeable s))
-    unfolding wakeable woken
-    wake-keeps = go (wakeable s) (wakeable-found s)
+    -- the search wakes as the theory asks
+    pub woken-wakes : Woke (view s) (wakeable s) (view (woken s (wakeable s)))
+    unfolding woken
+    woken-wakes = go (wakeable s) (wakeable-found s)
       where
-        go : (w : ℕ) → Found (s .counts .jobs) (wakes s) w → Woken w (if eqb w 0 then s else grant s (requestedMode s w) w (requestedObject s w))
-        go w (inl z) = subst (λ v. Woken v (if eqb v 0 then s else grant s (requestedMode s v) v (requestedObject s v))) (sym (z .0)) (F, none-woke (z .1))
-        go w (inr W) =
-            subst (λ b. Woken w (if b then s else grant s (requestedMode s w) w (requestedObject s w))) (sym (ne-eqb w 0 (λ q. omega (arith, W .low))))
-            (one-keeps w W, one-woke w W)
+        go : (w : ℕ) → Found (s .counts .jobs) (wakes s) w → Woke (view s) w (view (woken s w))
+        go w (inl z) = subst (λ v. Woke (view s) v (view (woken s v))) (sym (z .0)) (none-woke (z .1))
+        go w (inr W) = subst (λ t. Woke (view s) w (view t)) (sym (woken-granted s w (W .low))) (one-woke w W)
 
 -- ---- where every waiting job is blocked
 

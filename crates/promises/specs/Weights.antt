@@ -1,23 +1,21 @@
 -- What the manager's locks weigh, as the theory sees them: one weight for each job and object, `noWeight` where it holds no lock.
--- First the laws of the weights, then that weight, then what the lowest key says of it.
+-- First that weight, then what the lowest key says of it.
 -- Assumes nothing.
 use mathlib.Core.Path.{_≡_, refl, subst, ap}
 use mathlib.Core.Logic.{_≢_, _⊎_, inl, inr}
 use mathlib.Core.Bool.{Bool, true, false}
-use Prim.Native.Nat.{ℕ, _+_, _≤_, _<_, min}
+use Prim.Native.Nat.{ℕ, _≤_, _<_, min}
 use native.Mathlib.Omega.{arith}
 use native.Mathlib.Decide.{decLe}
 use borrow.Author.Tests.{ltb-true, ltb-false}
 use Rattle.basics.specs.Choice.{if_then_else_}
-use Rattle.ranks.specs.Ranks.{union}
-use Rattle.ranks.specs.RankLaws.{first-least, first-le}
-use Rattle.ranks.specs.UnionLaws.{union-left, union-right, first-union}
 use Rattle.state.specs.declared.State.{State}
-use Rattle.state.specs.State.{mostJobs, read, write, declared, holds}
-use Rattle.state.specs.Facts.{In, Facts}
-use Rattle.state.specs.Modes.{Mode, either-mode}
+use Rattle.state.specs.State.{read, write, holds}
+use Rattle.state.specs.Facts.{Facts}
+use Rattle.state.specs.Modes.{Mode}
 use Rattle.state.specs.WellFormedFacts.{held-rank, held-object}
-use Rattle.weights.specs.Weights.{writeCeiling, absoluteCeiling, moreUrgent, weight}
+use Rattle.weights.specs.Weights.{weight}
+use Rattle.weights.specs.WeightLaws.{weight-small}
 use Rattle.weights.specs.Keys.{lockKey, noWeight, noKey, keyWeight, lowestKey}
 use Rattle.weights.specs.KeyLaws.{KeyOfOther, key-below, key-at}
 use Rattle.rule.specs.Granting.{passes}
@@ -29,45 +27,9 @@ use Rattle.theory.specs.Key.{Lowest, key-passes, key-blocked}
 abbrev pub weightIf : Bool → ℕ → ℕ
 weightIf held w = if held then w else noWeight
 
--- ---- the weights of one state
+-- ---- the weight of r's lock on o
 
 module _ (s : State) where
-  -- a read lock weighs at least as urgent as its holder and as each job that may write its object
-  pub read-own : (r o : ℕ) → weight s read r o ≤ r
-  unfolding weight
-  read-own r o = omega arith
-
-  pub read-writer : (q r o : ℕ) → In (declared s write o) q → weight s read r o ≤ q
-  unfolding weight
-  read-writer q r o i = omega (arith, first-least mostJobs (declared s write o) q i)
-
-  -- a write lock weighs at least as urgent as each job that may lock its object
-  pub write-any : (m q r o : ℕ) → In (declared s m o) q → weight s write r o ≤ q
-  unfolding weight
-  write-any m q r o =
-      either-mode (λ f. In (f (declared s read o) (declared s write o)) q → absoluteCeiling s o ≤ q)
-      (λ i. below (union-left (declared s read o) (declared s write o) q i)) (λ i. below (union-right (declared s read o) (declared s write o) q i)) m
-    where
-      below : In (union (declared s read o) (declared s write o)) q → absoluteCeiling s o ≤ q
-      below i = first-least mostJobs (union (declared s read o) (declared s write o)) q i
-
-  pub write-writer : (q r o : ℕ) → In (declared s write o) q → weight s write r o ≤ q
-  write-writer q r o i = write-any write q r o i
-
-  -- of one job's two locks on an object the write lock weighs more
-  pub write-below-read : (r o : ℕ) → In (declared s write o) r → weight s write r o ≤ weight s read r o
-  unfolding weight
-  write-below-read r o i =
-      omega (arith, first-union mostJobs (declared s read o) (declared s write o), write-writer r r o i)
-
-  pub weight-small : (m r o : ℕ) → weight s m r o ≤ mostJobs + 1
-  unfolding weight
-  weight-small m r o =
-      either-mode (λ f. f (moreUrgent (writeCeiling s o) r) (absoluteCeiling s o) ≤ mostJobs + 1) (omega (arith, first-le mostJobs (declared s write o)))
-      (first-le mostJobs (union (declared s read o) (declared s write o))) m
-
-  -- ---- the weight of r's lock on o
-
   abbrev pub heldWeight : ℕ → ℕ → ℕ → ℕ
   heldWeight m r o = weightIf (holds s m r o) (weight s m r o)
 
@@ -129,7 +91,7 @@ module _ (s : State) where
             let o = w .object in
             let L = w .lock in
             let up = lock-below (w .mode) r o (L .mode) (L .held) in
-            let small : lockWeight r o < noWeight = omega (arith, weight-small (w .mode) r o) in
+            let small : lockWeight r o < noWeight = omega (arith, weight-small s (w .mode) r o) in
             let z = lock-small r o small in
             inr (r, o, L .other, z .0, z .1, omega (arith, lowest-below j r o (L .other) small, w .is))
 

@@ -16,6 +16,7 @@ use Rattle.state.specs.State.{mostJobs, mostObjects, isRank, isObject, isActive
 use Rattle.state.specs.WellFormed.{mayAwait, waitFits, waitsFit, wellFormed}
 use Rattle.state.specs.Clauses.{clauses, counts-within}
 use Rattle.refusals.specs.Refusals.{objectAllowed, eventRefusal, jobRefusal, objectRefusal, processorRefusal}
+use Rattle.refusals.specs.AcceptedEvent.{event-not-refused}
 
 -- each waiting job asks for an object that the arrays have
 abbrev pub RequestsFit : List ℕ → Type 0
@@ -51,13 +52,9 @@ in-range s w =
 
 -- an event that is not refused has a rank of the table, and an object that its kind may carry
 pub accepted-numbers : (s : State) (k r o : ℕ) → eventRefusal s k r o ≡ 0 → (1 ≤ r) × (r ≤ s .counts .jobs) × (objectAllowed s k o ≡ true)
-unfolding eventRefusal
 accepted-numbers s k r o e =
-    let e9 = if-zero 8 (not (between 1 6 k)) _ e in
-    let e10 = if-zero 9 (not (isRank s r)) _ (e9 .1) in
-    let e11 = if-zero 10 (not (objectAllowed s k o)) _ (e10 .1) in
-    let rank = between-true 1 (s .counts .jobs) r (not-false (isRank s r) (e10 .0)) in
-    (rank .0, rank .1, not-false (objectAllowed s k o) (e11 .0))
+    let A = event-not-refused s k r o e in
+    (A .rank .0, A .rank .1, A .object)
 
 -- ---- what a question that is not refused may count on
 

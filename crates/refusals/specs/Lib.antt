@@ -1,4 +1,5 @@
 -- The refusals 8 to 19 of events and questions, and what may be counted on where there is none.
 pub mod Refusals
 pub mod Parts
+pub mod AcceptedEvent
 pub mod Accepting

@@ -83,7 +83,7 @@ module _ (s : State) (F : Facts s) where
         held = l .held;
       }
 
-  passes-more-urgent : (j : ℕ) → passes s j ≡ true → MoreUrgentThanOthers s j
+  pub passes-more-urgent : (j : ℕ) → passes s j ≡ true → MoreUrgentThanOthers s j
   passes-more-urgent j e m r o l =
       let k = others-lock j m r o l in
       omega (arith, ltb-true j (keyWeight (lowestKey s j)) e, key-below (weight s) s j m r o k, k .rank, k .object, F .counts .objects)

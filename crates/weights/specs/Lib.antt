@@ -1,5 +1,6 @@
 -- Ceilings, what a lock weighs, and the key that orders locks.
 pub mod Weights
+pub mod WeightLaws
 pub mod Keys
 pub mod KeyLaws
 pub mod ObjectKeys

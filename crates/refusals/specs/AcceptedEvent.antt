@@ -1,4 +1,4 @@
--- What is known of an event that is not refused: each of the refusals 9 to 18 does not hold.
+-- What is known of an event that is not refused: none of the refusals 9 to 17 holds.
 -- Assumes nothing.
 use mathlib.Core.Path.{_≡_}
 use native.Mathlib.Omega.{arith}
@@ -24,11 +24,11 @@ pub record AcceptedEvent (s : State) (k r o : ℕ) : Type 0 where
   pub not-16 : isRequest k && not (mayLock s (modeOf k) r o) ≡ false
   pub not-17 : isRequest k && holdsAlready s (modeOf k) r o ≡ false
 
-pub not-refused : (s : State) (k r o : ℕ) → refusal s k r o ≡ 0 → AcceptedEvent s k r o
-unfolding refusal eventRefusal
-not-refused s k r o e =
-    let e8 = if-zero 7 (not (wellFormed s)) _ e in
-    let e9 = if-zero 8 (not (between 1 6 k)) _ (e8 .1) in
+-- in a state that is taken to be well formed
+pub event-not-refused : (s : State) (k r o : ℕ) → eventRefusal s k r o ≡ 0 → AcceptedEvent s k r o
+unfolding eventRefusal
+event-not-refused s k r o e =
+    let e9 = if-zero 8 (not (between 1 6 k)) _ e in
     let e10 = if-zero 9 (not (isRank s r)) _ (e9 .1) in
     let e11 = if-zero 10 (not (objectAllowed s k o)) _ (e10 .1) in
     let e12 = if-zero 11 (eqb k 1 && isActive s r) _ (e11 .1) in
@@ -48,6 +48,11 @@ not-refused s k r o e =
       not-16 = e16 .0;
       not-17 = e17 .0;
     }
+
+-- in any state
+pub not-refused : (s : State) (k r o : ℕ) → refusal s k r o ≡ 0 → AcceptedEvent s k r o
+unfolding refusal
+not-refused s k r o e = event-not-refused s k r o (if-zero 7 (not (wellFormed s)) _ e .1)
 
 -- a job that does not wait
 pub not-waiting : (s : State) (r : ℕ) → isWaiting s r ≡ false → requestOf s r ≡ 0

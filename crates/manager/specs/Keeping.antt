@@ -1,0 +1,19 @@
+-- An event in a well-formed state, of whatever numbers, leaves a well-formed state: by the facts of such a state, then by the test for one.
+-- Assumes nothing.
+use Prim.Native.Nat.{ℕ}
+use mathlib.Core.Path.{_≡_, sym, subst}
+use mathlib.Core.Bool.{true}
+use Rattle.state.specs.declared.State.{State}
+use Rattle.state.specs.WellFormed.{wellFormed}
+use Rattle.state.specs.Facts.{Sized, Facts}
+use Rattle.state.specs.WellFormedFacts.{facts, facts-well-formed}
+use Rattle.events.specs.declared.Outcome.{Outcome}
+use Rattle.events.specs.Keeping.{perform-keeps}
+use Rattle.manager.specs.Step.{step, step-performs}
+
+pub step-keeps : (s : State) → Facts s → (k r o : ℕ) → Facts (step s k r o .state)
+step-keeps s F k r o =
+    subst (λ (x : Outcome). Facts (x .state)) (sym (step-performs s k r o (facts-well-formed s F))) (perform-keeps s F k r o)
+
+pub step-well-formed : (s : State) → Sized s → wellFormed s ≡ true → (k r o : ℕ) → wellFormed (step s k r o .state) ≡ true
+step-well-formed s z w k r o = facts-well-formed (step s k r o .state) (step-keeps s (facts s z w) k r o)

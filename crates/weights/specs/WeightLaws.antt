@@ -1,0 +1,47 @@
+-- The laws of what a lock weighs: how urgent at least, beside its holder, the jobs that may lock its object and the same job's other lock on it; and at most 65.
+-- Assumes nothing.
+use Prim.Native.Nat.{ℕ, _+_, _≤_}
+use native.Mathlib.Omega.{arith}
+use Rattle.ranks.specs.Ranks.{union}
+use Rattle.ranks.specs.RankLaws.{first-least, first-le}
+use Rattle.ranks.specs.UnionLaws.{union-left, union-right, first-union}
+use Rattle.state.specs.declared.State.{State}
+use Rattle.state.specs.State.{mostJobs, read, write, declared}
+use Rattle.state.specs.Facts.{In}
+use Rattle.state.specs.Modes.{either-mode}
+use Rattle.weights.specs.Weights.{writeCeiling, absoluteCeiling, moreUrgent, weight}
+
+module _ (s : State) where
+  -- a read lock weighs at least as urgent as its holder and as each job that may write its object
+  pub read-own : (r o : ℕ) → weight s read r o ≤ r
+  unfolding weight
+  read-own r o = omega arith
+
+  pub read-writer : (q r o : ℕ) → In (declared s write o) q → weight s read r o ≤ q
+  unfolding weight
+  read-writer q r o i = omega (arith, first-least mostJobs (declared s write o) q i)
+
+  -- a write lock weighs at least as urgent as each job that may lock its object
+  pub write-any : (m q r o : ℕ) → In (declared s m o) q → weight s write r o ≤ q
+  unfolding weight
+  write-any m q r o =
+      either-mode (λ f. In (f (declared s read o) (declared s write o)) q → absoluteCeiling s o ≤ q)
+      (λ i. below (union-left (declared s read o) (declared s write o) q i)) (λ i. below (union-right (declared s read o) (declared s write o) q i)) m
+    where
+      below : In (union (declared s read o) (declared s write o)) q → absoluteCeiling s o ≤ q
+      below i = first-least mostJobs (union (declared s read o) (declared s write o)) q i
+
+  pub write-writer : (q r o : ℕ) → In (declared s write o) q → weight s write r o ≤ q
+  write-writer q r o i = write-any write q r o i
+
+  -- of one job's two locks on an object the write lock weighs more
+  pub write-below-read : (r o : ℕ) → In (declared s write o) r → weight s write r o ≤ weight s read r o
+  unfolding weight
+  write-below-read r o i =
+      omega (arith, first-union mostJobs (declared s read o) (declared s write o), write-writer r r o i)
+
+  pub weight-small : (m r o : ℕ) → weight s m r o ≤ mostJobs + 1
+  unfolding weight
+  weight-small m r o =
+      either-mode (λ f. f (moreUrgent (writeCeiling s o) r) (absoluteCeiling s o) ≤ mostJobs + 1) (omega (arith, first-le mostJobs (declared s write o)))
+      (first-le mostJobs (union (declared s read o) (declared s write o))) m
