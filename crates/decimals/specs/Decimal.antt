@@ -1,9 +1,9 @@
--- Decimal numbers as bytes (01, "The bench record"), and their laws: the digits one by one, and how many there are.
+-- Decimal numbers as bytes (01, "The bench record"), and their laws: the digits one by one and by thousands, and how many there are.
 -- Assumes nothing.
 use Prim.Native.Nat.{ℕ, zero, suc, _+_, _*_, _/_, _%_, _^_, _≤_, _<_}
 use mathlib.Core.Path.{_≡_, refl, ap, _∙_}
 use mathlib.Core.Bool.{Bool, true, false}
-use mathlib.Core.List.{List, [], _∷_, _++_}
+use mathlib.Core.List.{List, [], _∷_, _++_, append-assoc}
 use native.Mathlib.Nat.{pow-suc}
 use native.Mathlib.Omega.{arith}
 use lib.Dec.{ltb}
@@ -27,6 +27,10 @@ decimal n = decimalWithin (suc n) n
 
 -- ---- a number's digits
 
+-- the digits of a number below a thousand, with its leading zeros
+abbrev pub threeDigits : ℕ → List ℕ
+threeDigits n = digit (n / 100) ∷ digit (n / 10 % 10) ∷ digit (n % 10) ∷ []
+
 -- once the depth is above the number, it makes no difference
 same-depth : (j k n : ℕ) → n < j → n < k → decimalWithin j n ≡ decimalWithin k n
 unfolding decimalWithin
@@ -45,15 +49,40 @@ decimal-one n h =
     let same : n % 10 ≡ n = omega arith in
     simp (small, same)
 
-pub decimal-more : (n : ℕ) → 10 ≤ n → decimal n ≡ decimal (n / 10) ++ (digit (n % 10) ∷ [])
+decimal-more : (n : ℕ) → 10 ≤ n → decimal n ≡ decimal (n / 10) ++ (digit (n % 10) ∷ [])
 unfolding decimal decimalWithin
 decimal-more n h =
     let large = le-ltb n 10 h in
     let same = same-depth n (suc (n / 10)) (n / 10) (omega arith) (omega arith) in
     simp large (ap (λ (l : List ℕ). l ++ (digit (n % 10) ∷ [])) same)
 
-pub decimal-more-length : (n : ℕ) → 10 ≤ n → length (decimal n) ≡ length (decimal (n / 10)) + 1
+decimal-more-length : (n : ℕ) → 10 ≤ n → length (decimal n) ≡ length (decimal (n / 10)) + 1
 decimal-more-length n h = ap length (decimal-more n h) ∙ length-append (decimal (n / 10)) (digit (n % 10) ∷ [])
+
+pub decimal-two : (n : ℕ) → 10 ≤ n → n < 100 → decimal n ≡ digit (n / 10) ∷ digit (n % 10) ∷ []
+decimal-two n l h = decimal-more n l ∙ ap (λ (front : List ℕ). front ++ (digit (n % 10) ∷ [])) (decimal-one (n / 10) (omega arith))
+
+pub decimal-three : (n : ℕ) → 100 ≤ n → n < 1000 → decimal n ≡ threeDigits n
+decimal-three n l h =
+    let hundreds : n / 10 / 10 ≡ n / 100 = omega arith in
+    decimal-more n (omega arith)
+    ∙ ap (λ (front : List ℕ). front ++ (digit (n % 10) ∷ [])) (decimal-two (n / 10) (omega arith) (omega arith))
+    ∙ ap (λ (first : ℕ). digit first ∷ digit (n / 10 % 10) ∷ digit (n % 10) ∷ []) hundreds
+
+-- a number from a thousand on: its thousands, and three digits of what is left
+pub decimal-thousands : (n : ℕ) → 1000 ≤ n → decimal n ≡ decimal (n / 1000) ++ threeDigits (n % 1000)
+decimal-thousands n h =
+    let thousands : n / 10 / 10 / 10 ≡ n / 1000 = omega arith in
+    let hundreds : n / 10 / 10 % 10 ≡ n % 1000 / 100 = omega arith in
+    let tens : n / 10 % 10 ≡ n % 1000 / 10 % 10 = omega arith in
+    let ones : n % 10 ≡ n % 1000 % 10 = omega arith in
+    let hundred = decimal-more (n / 10 / 10) (omega arith) in
+    let ten = decimal-more (n / 10) (omega arith) in
+    let one = decimal-more n (omega arith) in
+    rw (one, ten, hundred) (simp append-assoc (rw (thousands, hundreds, tens, ones)))
+
+pub decimal-thousands-length : (n : ℕ) → 1000 ≤ n → length (decimal n) ≡ length (decimal (n / 1000)) + 3
+decimal-thousands-length n h = ap length (decimal-thousands n h) ∙ length-append (decimal (n / 1000)) (threeDigits (n % 1000))
 
 -- a number below the (k + 1)-th power of ten has at most k + 1 digits
 pub decimal-length : (k n : ℕ) → n < 10 ^ suc k → length (decimal n) ≤ suc k

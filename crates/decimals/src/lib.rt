@@ -2,7 +2,7 @@
 ghost use mathlib.Core.List.{[], _∷_};
 ghost use Prim.Native.Nat.{_+_, _≤_, _<_};
 ghost use lib.ListN.{length};
-ghost use Rattle.decimals.specs.Decimal.{decimal};
+ghost use Rattle.decimals.specs.Decimal.{decimal, threeDigits};
 ghost use Rattle.decimals.specs.Laid.{Laid};
 
 // A byte laid at the index.
@@ -32,14 +32,51 @@ pub fn lay_number(buf: &mut [u8], at: usize, number: u64) -> usize
     lay_digits(buf, at, number)
 }
 
-// The same, where just the digits have room.
-pub fn lay_digits(buf: &mut [u8], at: usize, number: u64) -> usize
+// A byte's decimal digits laid from the index on, without leading zeros.
+pub fn lay_byte_number(buf: &mut [u8], at: usize, number: u8) -> usize
+    requires { ⌜ at + 3 ≤ length (now buf) ⌝ }
+    ensures { λ r. ⌜ Laid (now (buf .entry)) (now (buf .exit)) at r 3 (decimal number) ⌝ }
+{
+    lay_below_thousand(buf, at, number as u16)
+}
+
+// A number's digits, where just these have room.
+fn lay_digits(buf: &mut [u8], at: usize, number: u64) -> usize
     requires { ⌜ at + length (decimal number) ≤ length (now buf) ⌝ }
+    ensures { λ r. ⌜ Laid (now (buf .entry)) (now (buf .exit)) at r (length (decimal number)) (decimal number) ⌝ }
+{
+    if number < 1000 {
+        return lay_below_thousand(buf, at, number as u16);
+    }
+    let end = lay_digits(buf, at, number / 1000);
+    lay_three_digits(buf, end, (number % 1000) as u16)
+}
+
+// The same of a number below a thousand: one to three digits.
+fn lay_below_thousand(buf: &mut [u8], at: usize, number: u16) -> usize
+    requires { ⌜ (number < 1000) × (at + length (decimal number) ≤ length (now buf)) ⌝ }
     ensures { λ r. ⌜ Laid (now (buf .entry)) (now (buf .exit)) at r (length (decimal number)) (decimal number) ⌝ }
 {
     if number < 10 {
         return lay_byte(buf, at, 48 + number as u8);
     }
-    let end = lay_digits(buf, at, number / 10);
-    lay_byte(buf, end, 48 + (number % 10) as u8)
+    if number < 100 {
+        let end = lay_byte(buf, at, 48 + (number / 10) as u8);
+        return lay_byte(buf, end, 48 + (number % 10) as u8);
+    }
+    lay_three_digits(buf, at, number)
+}
+
+// A number below a thousand in three digits, with its leading zeros.
+fn lay_three_digits(buf: &mut [u8], at: usize, number: u16) -> usize
+    requires { ⌜ (number < 1000) × (at + 3 ≤ length (now buf)) ⌝ }
+    ensures { λ r. ⌜ Laid (now (buf .entry)) (now (buf .exit)) at r 3 (threeDigits number) ⌝ }
+{
+    lay_three(
+        buf,
+        at,
+        48 + (number / 100) as u8,
+        48 + (number / 10 % 10) as u8,
+        48 + (number % 10) as u8,
+    )
 }

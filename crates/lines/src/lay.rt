@@ -8,7 +8,7 @@ ghost use Rattle.lines.specs.Lines.{space, behind, kindLetter, answerFie
 ghost use Rattle.decimals.specs.Laid.{Laid};
 ghost use Rattle.events.specs.Answers.{paper};
 use decimals::lay_byte;
-use decimals::lay_digits;
+use decimals::lay_byte_number;
 use decimals::lay_number;
 use decimals::lay_three;
 use events::Answer;
@@ -29,7 +29,7 @@ pub fn lay_field(buf: &mut [u8], at: usize, number: u8) -> usize
     ensures { λ r. ⌜ Laid (now (buf .entry)) (now (buf .exit)) at r 4 (space ∷ decimal number) ⌝ }
 {
     let end = lay_byte(buf, at, b' ');
-    lay_digits(buf, end, number as u64)
+    lay_byte_number(buf, end, number)
 }
 
 // The letter of an event's kind.
