@@ -5,13 +5,14 @@
  * objects count from 1, processors from 0.
  *
  * Every call may be given any contents of the struct, any bytes and any numbers: it answers, or refuses by a number from 1 to 20 (below).
- * A call that refuses leaves every byte that was lent to it as it was. No call allocates, blocks, ends the program or keeps anything between calls,
- * so that two threads may work on two states. Reading a table takes about 6 KB of stack and writing one about 14 KB, an event or a question less than 1 KB.
+ * A call that refuses leaves every byte that was lent to it as it was; an event that is refused in a list of events leaves the state as it was, and has its
+ * answer as the others have. No call allocates, blocks, ends the program or keeps anything between calls, so that two threads may work on two states.
+ * Reading a table takes about 6 KB of stack and writing one about 14 KB, an event, a list of events or a question less than 1 KB.
  * Of the C library only memcpy and memset are needed.
  *
- * What the caller still owes: each pointer points to an object of its type (a buffer: to at least as many bytes as its length says, at most PTRDIFF_MAX),
- * aligned as C aligns it; the objects lent to one call do not overlap; and no other thread writes them during the call.
- * Bytes or a buffer of length 0 may be lent as a null pointer. */
+ * What the caller still owes: each pointer points to an object of its type (a buffer or a list: to at least as many bytes or elements as its length says,
+ * at most PTRDIFF_MAX bytes), aligned as C aligns it; the objects lent to one call do not overlap; and no other thread writes them during the call.
+ * Bytes, a buffer or a list of length 0 may be lent as a null pointer. */
 #ifndef VONGSELIK_H
 #define VONGSELIK_H
 
@@ -36,7 +37,8 @@ extern "C" {
 
 /* ---- The state */
 
-/* A table and its locks. In a set of ranks, rank r is bit r - 1. All is filled in by vongselik_read_table, and changed by vongselik_event. */
+/* A table and its locks. In a set of ranks, rank r is bit r - 1. All is filled in by vongselik_read_table, and changed by vongselik_event
+ * and vongselik_events. */
 typedef struct vongselik_state {
     uint8_t processors;                                /* 1 to 8 */
     uint8_t jobs;                                      /* 1 to 64: the ranks are 1 to jobs */
@@ -129,6 +131,11 @@ uint32_t vongselik_parts_event(
     uint8_t processors, uint8_t jobs, uint8_t objects, const uint8_t *processor_of, const uint64_t *may_read, const uint64_t *may_write,
     uint64_t *active, uint64_t *unlocked, uint64_t *readers, uint64_t *writers, uint16_t *request, uint8_t kind, uint8_t rank, uint8_t object);
 
+size_t vongselik_parts_events(
+    uint8_t processors, uint8_t jobs, uint8_t objects, const uint8_t *processor_of, const uint64_t *may_read, const uint64_t *may_write,
+    uint64_t *active, uint64_t *unlocked, uint64_t *readers, uint64_t *writers, uint16_t *request, const uint8_t *events, size_t events_size,
+    uint32_t *answers, size_t answers_size);
+
 uint8_t vongselik_parts_inherited_rank(
     uint8_t processors, uint8_t jobs, uint8_t objects, const uint8_t *processor_of, const uint64_t *may_read, const uint64_t *may_write,
     uint64_t active, uint64_t unlocked, const uint64_t *readers, const uint64_t *writers, const uint16_t *request, uint8_t rank, uint8_t *inherited);
@@ -193,7 +200,7 @@ static inline uint8_t vongselik_write_table(const vongselik_state *state, uint8_
 
 /* ---- Events */
 
-/* Takes a packed answer of vongselik_parts_event apart: the answer in the top byte, then its values. */
+/* Takes a packed answer apart, such as vongselik_events gives: the answer in the top byte, then its values. */
 static inline vongselik_answer vongselik_unpack(uint32_t packed)
 {
     vongselik_answer answer = {0, 0, 0, 0, 0, 0};
@@ -217,6 +224,22 @@ static inline vongselik_answer vongselik_event(vongselik_state *state, uint8_t k
     return vongselik_unpack(vongselik_parts_event(
         state->processors, state->jobs, state->objects, state->processor_of, state->may_read, state->may_write, &state->active, &state->unlocked,
         state->readers, state->writers, state->request, kind, rank, object));
+}
+
+/* A list of events, three bytes each: kind, rank, object. Changes the state and answers them in their order, each as vongselik_event does:
+ * answers[i] is the packed answer to the event at byte 3 * i (vongselik_unpack). The events are 3 * count bytes, the answers count elements.
+ * The whole state is tested once, and not at each event. Answers how many events it answered: count.
+ * Refusals: 8 to 18, each event's by its own answer. A refused event leaves the state as it was, and those after it are answered all the same;
+ * a state that is not well formed refuses every event by 8, and is then as it was. The table in the state is never changed.
+ * Use it for a replay, a log or a test. In live control send one event at a time: here nobody sees an answer before all are given, and there
+ * another may ask about the state or change it between two events. */
+static inline size_t vongselik_events(vongselik_state *state, const uint8_t *events, uint32_t *answers, size_t count)
+{
+    const uint8_t no_event = 0;
+    uint32_t no_answer = 0;
+    return vongselik_parts_events(
+        state->processors, state->jobs, state->objects, state->processor_of, state->may_read, state->may_write, &state->active, &state->unlocked,
+        state->readers, state->writers, state->request, count ? events : &no_event, 3 * count, count ? answers : &no_answer, count);
 }
 
 /* ---- Questions. The state is only read. */

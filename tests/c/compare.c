@@ -1,6 +1,7 @@
-/* Compares the library with the model (model.c) on random tables, events, states (inputs.c) and questions. Prints how many calls agreed and how many did not.
+/* Compares the library with the model (model.c) on random tables, events, states (inputs.c) and questions, and lists of events with single events too.
+ * Prints how many calls agreed and how many did not.
  * Usage: compare [TABLES [EVENTS [SEED]]]: 1,000 tables, 120 events on each. Each event is one call; so is each table, part, state and question,
- * and each name of the header. */
+ * each list of events, once for every place where it is cut, and each name of the header. */
 #include <stdio.h>
 #include <stdlib.h>
 #include <string.h>
@@ -152,6 +153,102 @@ static void compare_handed_in(const vongselik_state *handed)
     if (below(4) == 0) compare_writing(&s, &m, below(3) ? (size_t)LONGEST : (size_t)below(400));
 }
 
+/* ---- Lists of events */
+
+/* How many events a list has, and the most room for answers to it. */
+enum { LISTED = 12, ROOM = LISTED + 3 };
+
+/* Random events, one more behind them, and what each answers by itself: the answers, packed, the state before each event, and the one after the last. */
+typedef struct {
+    uint8_t events[3 * LISTED + 3];
+    uint32_t answers[LISTED];
+    vongselik_state states[LISTED + 1];
+} list;
+
+/* The answer as vongselik_parts_events lays it down. */
+static uint32_t pack(vongselik_answer a)
+{
+    return (uint32_t)a.answer << 24 | (uint32_t)(a.holder | a.woken | a.refusal) << 16 | (uint32_t)a.object << 8 | (uint32_t)a.reason;
+}
+
+static void make_list(list *l, const vongselik_state *handed)
+{
+    vongselik_state s = *handed;
+    int i;
+    for (i = 0; i <= LISTED; i++) {
+        event e = any_event(&s);
+        l->events[3 * i] = e.kind;
+        l->events[3 * i + 1] = e.rank;
+        l->events[3 * i + 2] = e.object;
+        l->states[i] = s;
+        if (i < LISTED) l->answers[i] = pack(vongselik_event(&s, e.kind, e.rank, e.object));
+    }
+}
+
+/* So many bytes of the list in one call, with room for so many answers, compared with single events: how many are answered, each answer,
+ * what stands behind the answers, the whole state, and that the events are as they were. */
+static void compare_cut(const list *l, size_t size, size_t room)
+{
+    vongselik_state s = l->states[0];
+    uint8_t events[sizeof l->events];
+    uint32_t answers[ROOM], expected[ROOM];
+    size_t count = size / 3 < room ? size / 3 : room, answered, i;
+    memcpy(events, l->events, sizeof events);
+    for (i = 0; i < ROOM; i++) answers[i] = expected[i] = 0xa5a5a500 + (uint32_t)i;
+    memcpy(expected, l->answers, count * sizeof expected[0]);
+    if (size == 3 * room)
+        answered = vongselik_events(&s, events, answers, room);
+    else
+        answered = vongselik_parts_events(
+            s.processors, s.jobs, s.objects, s.processor_of, s.may_read, s.may_write, &s.active, &s.unlocked, s.readers, s.writers, s.request, events, size,
+            answers, room);
+    check(
+        answered == count && !memcmp(answers, expected, sizeof answers) && !memcmp(&s, &l->states[count], sizeof s)
+            && !memcmp(events, l->events, sizeof events),
+        "a list of events, cut");
+}
+
+/* The whole list in one call, compared with the model: each answer, and the state after them. */
+static void compare_whole(const list *l)
+{
+    vongselik_state s = l->states[0];
+    model m;
+    uint32_t answers[LISTED];
+    int same, i;
+    model_from(&m, &s);
+    same = vongselik_events(&s, l->events, answers, LISTED) == LISTED;
+    for (i = 0; i < LISTED && same; i++) same = answers[i] == pack(model_event(&m, l->events[3 * i], l->events[3 * i + 1], l->events[3 * i + 2]));
+    check(same && model_same(&m, &s), "a list of events");
+}
+
+/* A random list on the state: whole, cut after each byte, with room for fewer, as many and more answers, and empty. */
+static void compare_list(const vongselik_state *handed)
+{
+    static list l;
+    vongselik_state s = *handed;
+    size_t size, room;
+    make_list(&l, handed);
+    compare_whole(&l);
+    for (size = 0; size <= 3 * LISTED; size++)
+        for (room = 0; room <= ROOM; room++) compare_cut(&l, size, room);
+    check(vongselik_events(&s, NULL, NULL, 0) == 0 && !memcmp(&s, handed, sizeof s), "no events");
+}
+
+/* Lists on the state that events reached, on locks strewn over its table, on either with changes, and on noise. */
+static void compare_lists(const vongselik_state *reached)
+{
+    vongselik_state s = *reached;
+    int k;
+    compare_list(&s);
+    strew(&s);
+    compare_list(&s);
+    if (below(2)) s = *reached;
+    for (k = 1 + below(3); k > 0; k--) mutate(&s);
+    compare_list(&s);
+    fill_with_noise(&s);
+    compare_list(&s);
+}
+
 /* ---- All of it for one table */
 
 static void compare_table(int events)
@@ -178,6 +275,7 @@ static void compare_table(int events)
     compare_writing(&s, &m, 0);
     fill_with_noise(&other);
     compare_handed_in(&other);
+    compare_lists(&s);
 }
 
 int main(int argc, char **argv)

@@ -9,7 +9,7 @@
 
 #include "inputs.h"
 
-enum { ROOM = 1 << 16, FILLING = 0xa5, EVENTS = 120 };
+enum { ROOM = 1 << 16, FILLING = 0xa5, EVENTS = 120, LISTED = 12 };
 
 /* What the calls are given, and where they answer. */
 static vongselik_state state;
@@ -17,6 +17,8 @@ static uint8_t bytes[LONGEST], buffer[LONGEST], number, processor, values[2];
 static uint16_t ceilings[2];
 static size_t size, length;
 static event asked;
+static uint8_t listed[3 * LISTED];
+static uint32_t answers[LISTED];
 
 static unsigned char *entered;
 
@@ -44,6 +46,11 @@ static void write_table(void)
 static void send_event(void)
 {
     number = vongselik_event(&state, asked.kind, asked.rank, asked.object).answer;
+}
+
+static void send_list(void)
+{
+    length = vongselik_events(&state, listed, answers, size);
 }
 
 static void inherited_rank(void)
@@ -74,7 +81,7 @@ typedef struct {
     unsigned char room[ROOM];
 } call;
 
-enum { ENTER, READ_TABLE, JOB_ENTRIES, WRITE_TABLE, EVENT, INHERITED_RANK, NAMED_LOCK, CEILINGS, RUNNING, CALLS };
+enum { ENTER, READ_TABLE, JOB_ENTRIES, WRITE_TABLE, EVENT, LIST, INHERITED_RANK, NAMED_LOCK, CEILINGS, RUNNING, CALLS };
 
 static call calls[CALLS] = {
     {"", enter, {0}},
@@ -82,6 +89,7 @@ static call calls[CALLS] = {
     {"vongselik_job_entries", job_entries, {0}},
     {"vongselik_write_table", write_table, {0}},
     {"vongselik_event", send_event, {0}},
+    {"vongselik_events", send_list, {0}},
     {"vongselik_inherited_rank", inherited_rank, {0}},
     {"vongselik_named_lock", named_lock, {0}},
     {"vongselik_ceilings", ask_ceilings, {0}},
@@ -138,6 +146,20 @@ static void run_state(void)
     run(WRITE_TABLE);
 }
 
+/* A list of events on the state, of any length up to LISTED. */
+static void run_list(void)
+{
+    int i;
+    for (i = 0; i < LISTED; i++) {
+        event e = any_event(&state);
+        listed[3 * i] = e.kind;
+        listed[3 * i + 1] = e.rank;
+        listed[3 * i + 2] = e.object;
+    }
+    size = (size_t)below(LISTED + 1);
+    run(LIST);
+}
+
 /* A table and its states: those that events reach, and others handed in. */
 static void run_states(void)
 {
@@ -150,10 +172,13 @@ static void run_states(void)
         if (below(2)) strew(&state);
         for (k = below(4); k > 0; k--) mutate(&state);
         run_state();
+        run_list();
         state = reached;
+        run_list();
     }
     fill_with_noise(&state);
     run_state();
+    run_list();
 }
 
 int main(int argc, char **argv)
