@@ -10,7 +10,7 @@ use Rattle.basics.specs.Threes.{drop-three}
 use Rattle.state.specs.declared.State.{State}
 use Rattle.events.specs.declared.Outcome.{Outcome}
 use Rattle.manager.specs.Step.{step}
-use Rattle.vongselik.specs.Packing.{packed}
+use Rattle.events.specs.Packing.{packed}
 
 -- the exclusive or of a number and the packed answers to the events in some bytes, from a state
 unfoldable pub mixed : State → ℕ → List ℕ → ℕ

@@ -2,9 +2,9 @@
 ghost use mathlib.Core.Path.{_≡_};
 ghost use Rattle.table.specs.Reading.{readTable};
 ghost use Rattle.by_value.specs.Mixing.{mixed};
+use events::pack;
 use manager::event;
 use table::read_table;
-use vongselik::pack;
 
 // The answers to the events in the bytes, from the table's state, mixed into one number. One or two bytes left over are not looked at.
 // From the state of a refused table every answer is a refusal.

@@ -1,10 +1,14 @@
-// Events in a well-formed state, on its parts, in place: one small function for each rule, with its refusals.
+// Events in a well-formed state, on its parts, in place: one small function for each rule, with its refusals. And an answer packed into a number.
 ghost use mathlib.Core.Path.{_≡_};
 ghost use mathlib.Core.List.{List};
 ghost use Prim.Native.Nat.{ℕ, _≤_};
 ghost use Rattle.state.specs.State.{mostJobs, mostObjects, write, stateOf};
 ghost use Rattle.refusals.specs.Accepting.{RequestsFit, InRange};
 ghost use Rattle.events.specs.Events as E;
+
+mod packing;
+
+pub use packing::pack;
 use changes::grant;
 use changes::mode_of_request;
 use changes::object_of_request;

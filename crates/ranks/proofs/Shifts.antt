@@ -39,11 +39,6 @@ up-to-is k l =
     ap (λ (n : ℕ). (2 ^ n - 1) / 2 ^ (64 - k)) whole
     ∙ ap (λ (n : ℕ). n / 2 ^ (64 - k)) (ones-split k (64 - k)) ∙ high (2 ^ k - 1) (64 - k) (ones-lt (64 - k))
 
--- what wraps is met by no bit of the empty set
-pub but-first-is : (set d : ℕ) → d < 2 ^ 64 → (d + 1) % 2 ^ 64 ≡ set → bitAnd set d ≡ butFirst set
-but-first-is zero d l e = and-zero-l d ∙ refl
-but-first-is (suc n) d l e = let less : d ≡ suc n - 1 = omega arith in ap (bitAnd (suc n)) less
-
 -- below 1 the difference wraps, to a word of ones
 pub less-one-is : (set d : ℕ) → d < 2 ^ 64 → (d + 1) % 2 ^ 64 ≡ set → d ≡ lessOne set
 unfolding lessOne

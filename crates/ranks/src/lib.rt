@@ -1,7 +1,6 @@
 // Sets of ranks as numbers of one word: rank r is bit r - 1.
 ghost use mathlib.Core.Path.{_≡_};
 ghost use Prim.Native.Nat.{_≤_};
-ghost use Rattle.basics.specs.Choice.{if_then_else_};
 ghost use Rattle.ranks.specs.Ranks as R;
 
 // A set of ranks.
@@ -15,13 +14,6 @@ pub fn is_empty(set: RankSet) -> bool
     ensures { λ r. ⌜ r ≡ R.isEmpty set ⌝ }
 {
     set == 0
-}
-
-// The set, if the test holds; else the empty set.
-pub fn kept(test: bool, set: RankSet) -> RankSet
-    ensures { λ r. ⌜ r ≡ (if test then set else 0) ⌝ }
-{
-    if test { set } else { 0 }
 }
 
 // Whether the set has the rank.
@@ -76,32 +68,11 @@ pub fn is_subset(a: RankSet, b: RankSet) -> bool
     a & b == a
 }
 
-// Whether the sets have no rank in common.
-pub fn disjoint(a: RankSet, b: RankSet) -> bool
-    ensures { λ r. ⌜ r ≡ R.disjoint a b ⌝ }
-{
-    a & b == 0
-}
-
-// Whether the set has no two ranks.
-pub fn at_most_one(set: RankSet) -> bool
-    ensures { λ r. ⌜ r ≡ R.atMostOne set ⌝ }
-{
-    but_first(set) == 0
-}
-
 // The ranks of the first set that are not in the second.
 pub fn minus(a: RankSet, b: RankSet) -> RankSet
     ensures { λ r. ⌜ r ≡ R.minus a b ⌝ }
 {
     a ^ (a & b)
-}
-
-// The set without its most urgent rank.
-pub fn but_first(set: RankSet) -> RankSet
-    ensures { λ r. ⌜ r ≡ R.butFirst set ⌝ }
-{
-    set & std::num::wrapping_sub_u64(set, 1)
 }
 
 // The ranks before the set's first, and its others; all ranks where it is empty.

@@ -1,6 +1,9 @@
 // The lock manager's state, and the test whether a state is well formed. Ranks and objects count from 1; rank 1 is the most urgent.
 ghost use mathlib.Core.Path.{_≡_};
-ghost use Rattle.state.specs.State.{stateOf};
+ghost use mathlib.Core.Bool.{_&&_};
+ghost use lib.Dec.{eqb};
+ghost use lib.ListN.{length};
+ghost use Rattle.state.specs.State.{mostJobs, mostObjects, stateOf};
 ghost use Rattle.state.specs.WellFormed.{wellFormed};
 ghost use Rattle.state.specs.Facts.{Sized};
 
@@ -86,6 +89,63 @@ pub fn fits<'a>(
             writers,
             request,
         )
+}
+
+// Whether lists have the lengths of a state's arrays.
+fn have_lengths<'a>(
+    processor_of: &'a [u8],
+    may_read: &'a [RankSet],
+    may_write: &'a [RankSet],
+    readers: &'a [RankSet],
+    writers: &'a [RankSet],
+    request: &'a [u16],
+) -> bool
+    ensures { λ r. ⌜ r ≡ (eqb (length (now («processor_of» .entry))) mostJobs && eqb (length (now («may_read» .entry))) mostObjects && eqb (length (now («may_write» .entry))) mostObjects
+        && eqb (length (now (readers .entry))) mostObjects && eqb (length (now (writers .entry))) mostObjects && eqb (length (now (request .entry))) mostJobs) ⌝ }
+{
+    (processor_of.len() == 64)
+        & (may_read.len() == 128)
+        & (may_write.len() == 128)
+        & (readers.len() == 128)
+        & (writers.len() == 128)
+        & (request.len() == 64)
+}
+
+// The same, and that the parts have their lengths, as whatever is lent has: what the laws about the next state ask.
+pub fn fits_sized<'a>(
+    counts: Counts,
+    processor_of: &'a JobProcessors,
+    may_read: Sets<'a>,
+    may_write: Sets<'a>,
+    active: RankSet,
+    unlocked: RankSet,
+    readers: Sets<'a>,
+    writers: Sets<'a>,
+    request: &'a JobRequests,
+) -> bool
+    ensures { λ r. ⌜ (r ≡ wellFormed (stateOf counts (now («processor_of» .entry)) (now («may_read» .entry)) (now («may_write» .entry))
+        active unlocked (now (readers .entry)) (now (writers .entry)) (now (request .entry))))
+        × Sized (stateOf counts (now («processor_of» .entry)) (now («may_read» .entry)) (now («may_write» .entry))
+        active unlocked (now (readers .entry)) (now (writers .entry)) (now (request .entry))) ⌝ }
+{
+    have_lengths(
+        processor_of,
+        may_read,
+        may_write,
+        readers,
+        writers,
+        request,
+    ) & fits(
+        counts,
+        processor_of,
+        may_read,
+        may_write,
+        active,
+        unlocked,
+        readers,
+        writers,
+        request,
+    )
 }
 
 // Whether a state is well formed: what refusal 8 tests. Whatever is handed in, its arrays have their lengths.

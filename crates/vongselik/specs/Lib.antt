@@ -1,4 +1,3 @@
--- The C interface: an answer packed into a number, lent cells that a refusal leaves as they were, one job's entries by start and length.
-pub mod Packing
+-- The C interface: lent cells that a refusal leaves as they were, one job's entries by start and length.
 pub mod Lending
 pub mod Entries

@@ -2,15 +2,14 @@
 ghost use mathlib.Core.Path.{_≡_};
 ghost use Rattle.state.specs.State.{countsOf, stateOf};
 ghost use Rattle.events.specs.Answers.{paper};
+ghost use Rattle.events.specs.Packing.{packed, unpacked};
 ghost use Rattle.manager.specs.Step.{step};
-ghost use Rattle.vongselik.specs.Packing.{packed, unpacked};
 
 mod asking;
 mod entries;
-mod packing;
 mod tables;
 
-pub use packing::pack;
+use events::pack;
 use ranks::RankSet;
 use state::Counts;
 use state::JobProcessors;

@@ -11,7 +11,7 @@ use lib.ListN.{length, drop, length-drop}
 use Rattle.state.specs.declared.State.{State}
 use Rattle.table.specs.declared.TableRead.{TableRead}
 use Rattle.events.specs.declared.Outcome.{Outcome}
-use Rattle.vongselik.specs.Packing.{packed}
+use Rattle.events.specs.Packing.{packed}
 use Rattle.by_value.specs.Mixing.{mixed, mixed-next, mixed-none}
 use borrow.Author.Needs.{needs}
 use Rattle.by_value.proofs.by_value_answers.Statement.{statement}

@@ -3,7 +3,7 @@
 use mathlib.Core.Path.{ap, _∙_}
 use Rattle.events.specs.declared.Outcome.{Outcome}
 use Rattle.events.specs.Answers.{paper}
-use Rattle.vongselik.specs.Packing.{packed}
+use Rattle.events.specs.Packing.{packed}
 use borrow.Author.Needs.{needs}
 use Rattle.vongselik.proofs.vongselik_parts_event.Statement.{statement}
 use Rattle.vongselik.proofs.vongselik_parts_event.Tie as tie

@@ -1,9 +1,9 @@
 // An event's answer as one number.
 ghost use mathlib.Core.Path.{_≡_};
 ghost use Prim.Native.Nat.{_<_};
 ghost use Rattle.events.specs.Answers.{paper};
-ghost use Rattle.vongselik.specs.Packing.{fourBytes, packed, unpacked};
-use events::Answer;
+ghost use Rattle.events.specs.Packing.{fourBytes, packed, unpacked};
+use crate::Answer;
 
 // Four bytes as one number, the first byte on top.
 fn four_bytes(number: u8, a: u8, b: u8, c: u8) -> u32

@@ -1,11 +1,11 @@
--- `vongselik::packing::pack` meets its contract: each case of the answer has the bytes that the paper gives it.
+-- `events::pack` meets its contract: each case of the answer has the bytes that the paper gives it.
 -- Assumes nothing.
 use mathlib.Core.Path.{sym, ap, _∙_}
 use Rattle.events.specs.Answers.{paper}
-use Rattle.vongselik.specs.Packing.{packed, unpacked, unpack-four}
+use Rattle.events.specs.Packing.{packed, unpacked, unpack-four}
 use borrow.Author.Needs.{needs}
-use Rattle.vongselik.proofs.packing.pack.Statement.{statement}
-use Rattle.vongselik.proofs.packing.pack.Tie as tie
+use Rattle.events.proofs.packing.pack.Statement.{statement}
+use Rattle.events.proofs.packing.pack.Tie as tie
 
 enum-told : tie.Need-enum-told
 enum-told c = search needs
