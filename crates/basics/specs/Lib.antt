@@ -3,4 +3,5 @@ pub mod Choice
 pub mod Loops
 pub mod Arrays
 pub mod Threes
+pub mod Stores
 pub mod Replies

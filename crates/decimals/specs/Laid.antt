@@ -1,24 +1,19 @@
 -- Texts laid into a buffer, one behind the other.
 -- Assumes nothing.
-use Prim.Native.Nat.{ℕ, suc, _+_, _≤_}
+use Prim.Native.Nat.{ℕ, _+_, _≤_}
 use mathlib.Core.Path.{_≡_, sym, ap, ap₂, _∙_}
-use mathlib.Core.List.{List, [], _∷_, _++_}
-use native.Mathlib.Nat.{add-zero, zero-add}
+use mathlib.Core.List.{List, _++_}
+use native.Mathlib.Nat.{zero-add}
 use native.Mathlib.Omega.{arith}
-use lib.ListN.{length, set, take, drop, length-append}
+use lib.ListN.{length, take, drop, length-append}
 use lib.Seq.{sets, sets-eq, length-sets, take-at}
+use Rattle.basics.specs.Stores.{sets-append}
 
 -- a text laid from index `start` on, up to `end`, in no more than `room` bytes
 pub record Laid (before after : List ℕ) (start end room : ℕ) (text : List ℕ) : Type 0 where
   pub stored : after ≡ sets before start text
   pub stops : end ≡ start + length text
   pub within : end ≤ start + room
-
-sets-append : (old : List ℕ) (i : ℕ) (xs ys : List ℕ) → sets (sets old i xs) (i + length xs) ys ≡ sets old i (xs ++ ys)
-sets-append old i [] ys = ap (λ (k : ℕ). sets old k ys) (add-zero i)
-sets-append old i (x ∷ xs) ys =
-    let next : i + suc (length xs) ≡ suc i + length xs = omega arith in
-    ap (λ (k : ℕ). sets (sets (set old i x) (suc i) xs) k ys) next ∙ sets-append (set old i x) (suc i) xs ys
 
 pub laid-then : {a b c : List ℕ} {i j k m n : ℕ} {xs ys : List ℕ} → Laid a b i j m xs → Laid b c j k n ys → Laid a c i k (m + n) (xs ++ ys)
 laid-then {a} {b} {c} {i} {j} {k} {m} {n} {xs} {ys} p q =

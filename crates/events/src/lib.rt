@@ -8,13 +8,13 @@ ghost use Rattle.events.specs.Events as E;
 
 mod packing;
 
-pub use packing::pack;
 use changes::grant;
 use changes::mode_of_request;
 use changes::object_of_request;
 use changes::release_set;
 use changes::release_sets;
 use changes::store_request;
+pub use packing::pack;
 use ranks::RankSet;
 use refusals::finish_refusal;
 use refusals::lock_refusal;

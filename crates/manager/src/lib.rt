@@ -1,11 +1,21 @@
-// The lock manager: an event on a state, by value and in place.
+// The lock manager: an event on a state, by value and in place, and a list of events in place.
 ghost use mathlib.Core.Path.{_≡_};
+ghost use mathlib.Core.Bool.{true};
+ghost use mathlib.Core.List.{_++_};
+ghost use Prim.Native.Nat.{_*_, _≤_};
+ghost use lib.ListN.{length, drop};
+ghost use lib.Seq.{sets};
 ghost use Rattle.state.specs.State.{stateOf};
+ghost use Rattle.state.specs.WellFormed.{wellFormed};
 ghost use Rattle.state.specs.Facts.{Sized};
 ghost use Rattle.events.specs.Events.{outcome};
 ghost use Rattle.manager.specs.Step.{step};
+ghost use Rattle.manager.specs.Keeping.{Tested};
+ghost use Rattle.manager.specs.EventList.{stateAfter, answersTo, eventCount, wholeEvents};
+use basics::smaller;
 use events::Answer;
 use events::Outcome;
+use events::pack;
 use events::perform;
 use ranks::RankSet;
 use state::Counts;
@@ -15,8 +25,82 @@ use state::Sets;
 use state::SetsMut;
 use state::State;
 use state::fits;
+use state::fits_sized;
 
-// An event: refused by 8 and nothing changed where the state is not well formed; else what is refused or done by its kind's rule.
+// An event in a state that is known to be well formed: what is refused or done by its kind's rule. The next state is well formed too (manager/specs/Keeping).
+pub fn act_tested<'a>(
+    counts: Counts,
+    processor_of: &'a JobProcessors,
+    may_read: Sets<'a>,
+    may_write: Sets<'a>,
+    active: &mut RankSet,
+    unlocked: &mut RankSet,
+    readers: SetsMut,
+    writers: SetsMut,
+    request: &mut JobRequests,
+    kind: u8,
+    rank: u8,
+    object: u8,
+) -> Answer
+    requires { ⌜ wellFormed (stateOf counts (now «processor_of») (now «may_read») (now «may_write») (now active) (now unlocked) (now readers) (now writers) (now request)) ≡ true ⌝ }
+    ensures { λ r. ⌜ outcome r (stateOf counts (now («processor_of» .entry)) (now («may_read» .entry)) (now («may_write» .entry)) (now (active .exit)) (now (unlocked .exit)) (now (readers .exit)) (now (writers .exit)) (now (request .exit)))
+        ≡ step (stateOf counts (now («processor_of» .entry)) (now («may_read» .entry)) (now («may_write» .entry)) (now (active .entry)) (now (unlocked .entry)) (now (readers .entry)) (now (writers .entry)) (now (request .entry))) kind rank object ⌝ }
+{
+    perform(
+        counts,
+        may_read,
+        may_write,
+        active,
+        unlocked,
+        readers,
+        writers,
+        request,
+        kind,
+        rank,
+        object,
+    )
+}
+
+// An event in a state of which it is known whether it is well formed: refused by 8 and nothing changed where it is not.
+pub fn act_known<'a>(
+    well: bool,
+    counts: Counts,
+    processor_of: &'a JobProcessors,
+    may_read: Sets<'a>,
+    may_write: Sets<'a>,
+    active: &mut RankSet,
+    unlocked: &mut RankSet,
+    readers: SetsMut,
+    writers: SetsMut,
+    request: &mut JobRequests,
+    kind: u8,
+    rank: u8,
+    object: u8,
+) -> Answer
+    requires { ⌜ well ≡ wellFormed (stateOf counts (now «processor_of») (now «may_read») (now «may_write») (now active) (now unlocked) (now readers) (now writers) (now request)) ⌝ }
+    ensures { λ r. ⌜ outcome r (stateOf counts (now («processor_of» .entry)) (now («may_read» .entry)) (now («may_write» .entry)) (now (active .exit)) (now (unlocked .exit)) (now (readers .exit)) (now (writers .exit)) (now (request .exit)))
+        ≡ step (stateOf counts (now («processor_of» .entry)) (now («may_read» .entry)) (now («may_write» .entry)) (now (active .entry)) (now (unlocked .entry)) (now (readers .entry)) (now (writers .entry)) (now (request .entry))) kind rank object ⌝ }
+{
+    if !well {
+        return Answer::Refused(8);
+    }
+    act_tested(
+        counts,
+        processor_of,
+        may_read,
+        may_write,
+        active,
+        unlocked,
+        readers,
+        writers,
+        request,
+        kind,
+        rank,
+        object,
+    )
+}
+
+// An event in any state: the test of the state, then the event.
 pub fn act<'a>(
     counts: Counts,
     processor_of: &'a JobProcessors,
@@ -34,7 +118,7 @@ pub fn act<'a>(
     ensures { λ r. ⌜ outcome r (stateOf counts (now («processor_of» .entry)) (now («may_read» .entry)) (now («may_write» .entry)) (now (active .exit)) (now (unlocked .exit)) (now (readers .exit)) (now (writers .exit)) (now (request .exit)))
         ≡ step (stateOf counts (now («processor_of» .entry)) (now («may_read» .entry)) (now («may_write» .entry)) (now (active .entry)) (now (unlocked .entry)) (now (readers .entry)) (now (writers .entry)) (now (request .entry))) kind rank object ⌝ }
 {
-    if !fits(
+    let well = fits(
         counts,
         processor_of,
         may_read,
@@ -44,11 +128,11 @@ pub fn act<'a>(
         readers,
         writers,
         request,
-    ) {
-        return Answer::Refused(8);
-    }
-    perform(
+    );
+    act_known(
+        well,
         counts,
+        processor_of,
         may_read,
         may_write,
         active,
@@ -60,6 +144,102 @@ pub fn act<'a>(
         rank,
         object,
     )
+}
+
+// The events in the bytes, one after the other, in a state of which it is known whether it is well formed, their packed answers at the front of the list.
+// One or two bytes left over are not looked at.
+fn answer_each<'a>(
+    well: bool,
+    counts: Counts,
+    processor_of: &'a JobProcessors,
+    may_read: Sets<'a>,
+    may_write: Sets<'a>,
+    active: &mut RankSet,
+    unlocked: &mut RankSet,
+    readers: SetsMut,
+    writers: SetsMut,
+    request: &mut JobRequests,
+    events: &[u8],
+    answers: &mut [u32],
+)
+    requires { ⌜ Tested well (stateOf counts (now «processor_of») (now «may_read») (now «may_write») (now active) (now unlocked) (now readers) (now writers) (now request)) × (length (now events) ≤ 3 * length (now answers)) ⌝ }
+    ensures answers { λ _. ⌜ now (answers .exit) ≡ sets (now (answers .entry)) 0 (answersTo (stateOf counts (now («processor_of» .entry)) (now («may_read» .entry)) (now («may_write» .entry)) (now (active .entry)) (now (unlocked .entry)) (now (readers .entry)) (now (writers .entry)) (now (request .entry))) (now (events .entry))) ⌝ }
+    ensures state { λ _. ⌜ stateOf counts (now («processor_of» .entry)) (now («may_read» .entry)) (now («may_write» .entry)) (now (active .exit)) (now (unlocked .exit)) (now (readers .exit)) (now (writers .exit)) (now (request .exit))
+        ≡ stateAfter (stateOf counts (now («processor_of» .entry)) (now («may_read» .entry)) (now («may_write» .entry)) (now (active .entry)) (now (unlocked .entry)) (now (readers .entry)) (now (writers .entry)) (now (request .entry))) (now (events .entry)) ⌝ }
+{
+    let mut at = 0;
+    let mut i = 0;
+    while events.len() - at >= 3 {
+        let answer = act_known(
+            well,
+            counts,
+            processor_of,
+            may_read,
+            may_write,
+            active,
+            unlocked,
+            readers,
+            writers,
+            request,
+            events[at],
+            events[at + 1],
+            events[at + 2],
+        );
+        answers[i] = pack(answer);
+        at += 3;
+        i += 1;
+    }
+}
+
+// The events in the bytes, one after the other, as many as the bytes and the list of answers both hold whole: the same answers, packed, and the same state
+// as by `act` for each, but the state is tested once. The answers behind them stay. Answers how many events there were.
+pub fn act_each<'a>(
+    counts: Counts,
+    processor_of: &'a JobProcessors,
+    may_read: Sets<'a>,
+    may_write: Sets<'a>,
+    active: &mut RankSet,
+    unlocked: &mut RankSet,
+    readers: SetsMut,
+    writers: SetsMut,
+    request: &mut JobRequests,
+    events: &[u8],
+    answers: &mut [u32],
+) -> usize
+    ensures number { λ r. ⌜ r ≡ eventCount (now (events .entry)) (now (answers .entry)) ⌝ }
+    ensures answers { λ r. ⌜ now (answers .exit) ≡ answersTo (stateOf counts (now («processor_of» .entry)) (now («may_read» .entry)) (now («may_write» .entry)) (now (active .entry)) (now (unlocked .entry)) (now (readers .entry)) (now (writers .entry)) (now (request .entry))) (wholeEvents (now (events .entry)) (now (answers .entry)))
+        ++ drop (eventCount (now (events .entry)) (now (answers .entry))) (now (answers .entry)) ⌝ }
+    ensures state { λ r. ⌜ stateOf counts (now («processor_of» .entry)) (now («may_read» .entry)) (now («may_write» .entry)) (now (active .exit)) (now (unlocked .exit)) (now (readers .exit)) (now (writers .exit)) (now (request .exit))
+        ≡ stateAfter (stateOf counts (now («processor_of» .entry)) (now («may_read» .entry)) (now («may_write» .entry)) (now (active .entry)) (now (unlocked .entry)) (now (readers .entry)) (now (writers .entry)) (now (request .entry))) (wholeEvents (now (events .entry)) (now (answers .entry))) ⌝ }
+{
+    let count = smaller(events.len() / 3, answers.len());
+    let used = 3 * count;
+    let well = fits_sized(
+        counts,
+        processor_of,
+        may_read,
+        may_write,
+        *active,
+        *unlocked,
+        readers,
+        writers,
+        request,
+    );
+    answer_each(
+        well,
+        counts,
+        processor_of,
+        may_read,
+        may_write,
+        active,
+        unlocked,
+        readers,
+        writers,
+        request,
+        &events[..used],
+        answers,
+    );
+    count
 }
 
 // An event: its answer and the next state; a refusal returns the state handed in. The parts that an event may change are copied, and `act` runs on the copies.

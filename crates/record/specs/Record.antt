@@ -19,13 +19,6 @@ eventLines s n (a ∷ b ∷ []) = []
 eventLines s n (kind ∷ rank ∷ object ∷ bytes) =
     eventLine (suc n) kind rank object (step s kind rank object .answer) ++ eventLines (step s kind rank object .state) (suc n) bytes
 
--- the state behind the events in some bytes: each event "gets the state that the event before it returned, refused or not"
-unfoldable pub stateAfter : State → List ℕ → State
-stateAfter s [] = s
-stateAfter s (a ∷ []) = s
-stateAfter s (a ∷ b ∷ []) = s
-stateAfter s (kind ∷ rank ∷ object ∷ bytes) = stateAfter (step s kind rank object .state) bytes
-
 -- "The last line is `end` and the event count, or `short` if one or two bytes are left over", behind so many bytes of events
 abbrev pub lastLine : ℕ → List ℕ
 lastLine n = if eqb (n % 3) 0 then endLine (n / 3) else shortLine

@@ -15,7 +15,8 @@ use Rattle.table_bytes.specs.AcceptedTable.{accepted-table}
 use Rattle.table.specs.Fresh.{read-refusal, read-accepted}
 use Rattle.manager.specs.Step.{step}
 use Rattle.lines.specs.Lines.{eventLine}
-use Rattle.record.specs.Record.{eventLines, stateAfter}
+use Rattle.manager.specs.EventList.{stateAfter}
+use Rattle.record.specs.Record.{eventLines}
 
 -- ---- an event, and what it leaves
 
@@ -24,11 +25,6 @@ pub event-lines-more : (s : State) (n kind rank object : ℕ) (bytes : List ℕ)
 unfolding eventLines
 event-lines-more s n kind rank object bytes = refl
 
-pub state-after-more : (s : State) (kind rank object : ℕ) (bytes : List ℕ)
-    → stateAfter s (kind ∷ rank ∷ object ∷ bytes) ≡ stateAfter (step s kind rank object .state) bytes
-unfolding stateAfter
-state-after-more s kind rank object bytes = refl
-
 -- fewer than three bytes are no event
 pub event-lines-none : (s : State) (n : ℕ) (bytes : List ℕ) → length bytes < 3 → eventLines s n bytes ≡ []
 unfolding eventLines
@@ -36,13 +32,6 @@ event-lines-none s n [] h = refl
 event-lines-none s n (a ∷ []) h = refl
 event-lines-none s n (a ∷ b ∷ []) h = refl
 event-lines-none s n (a ∷ b ∷ c ∷ bytes) h = absurd (omega arith)
-
-pub state-after-none : (s : State) (bytes : List ℕ) → length bytes < 3 → stateAfter s bytes ≡ s
-unfolding stateAfter
-state-after-none s [] h = refl
-state-after-none s (a ∷ []) h = refl
-state-after-none s (a ∷ b ∷ []) h = refl
-state-after-none s (a ∷ b ∷ c ∷ bytes) h = absurd (omega arith)
 
 -- ---- k whole events, and more bytes behind them: their lines, and then the lines from the state that they leave
 
@@ -61,15 +50,6 @@ event-lines-join (suc k) s n (a ∷ b ∷ c ∷ xs) ys h =
     ap (λ (l : List ℕ). line ++ l) (event-lines-join k next (suc n) xs ys (omega arith))
     ∙ ap (λ (m : ℕ). line ++ (eventLines next (suc n) xs ++ eventLines (stateAfter next xs) m ys)) count
     ∙ sym (append-assoc line (eventLines next (suc n) xs) (eventLines (stateAfter next xs) (n + suc k) ys))
-
-pub state-after-join : (k : ℕ) (s : State) (xs ys : List ℕ) → length xs ≡ 3 * k → stateAfter s (xs ++ ys) ≡ stateAfter (stateAfter s xs) ys
-unfolding stateAfter
-state-after-join zero s [] ys h = refl
-state-after-join zero s (a ∷ xs) ys h = absurd (omega arith)
-state-after-join (suc k) s [] ys h = absurd (omega arith)
-state-after-join (suc k) s (a ∷ []) ys h = absurd (omega arith)
-state-after-join (suc k) s (a ∷ b ∷ []) ys h = absurd (omega arith)
-state-after-join (suc k) s (a ∷ b ∷ c ∷ xs) ys h = state-after-join k (step s a b c .state) xs ys (omega arith)
 
 -- ---- a table that is accepted stands inside its bytes
 

@@ -128,24 +128,18 @@ pub fn fits_sized<'a>(
         × Sized (stateOf counts (now («processor_of» .entry)) (now («may_read» .entry)) (now («may_write» .entry))
         active unlocked (now (readers .entry)) (now (writers .entry)) (now (request .entry))) ⌝ }
 {
-    have_lengths(
-        processor_of,
-        may_read,
-        may_write,
-        readers,
-        writers,
-        request,
-    ) & fits(
-        counts,
-        processor_of,
-        may_read,
-        may_write,
-        active,
-        unlocked,
-        readers,
-        writers,
-        request,
-    )
+    have_lengths(processor_of, may_read, may_write, readers, writers, request)
+        & fits(
+            counts,
+            processor_of,
+            may_read,
+            may_write,
+            active,
+            unlocked,
+            readers,
+            writers,
+            request,
+        )
 }
 
 // Whether a state is well formed: what refusal 8 tests. Whatever is handed in, its arrays have their lengths.

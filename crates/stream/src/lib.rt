@@ -6,6 +6,7 @@ ghost use Rattle.decimals.specs.Laid.{Laid};
 ghost use Rattle.lines.specs.Lines.{LineLaid};
 ghost use Rattle.table.specs.Reading.{readTable};
 ghost use Rattle.stream.specs.Parts.{unread, openingLine, opening, answering, advance, mostLines, lastLineOf, Advances};
+use basics::smaller;
 use lines::LineBuffer;
 use lines::lay_end;
 use lines::lay_header;
@@ -30,18 +31,11 @@ pub struct Advanced {
     pub laid: usize,
 }
 
-// The smaller of two numbers.
-fn least(a: usize, b: usize) -> usize
-    ensures { λ r. ⌜ r ≡ min a b ⌝ }
-{
-    if a < b { a } else { b }
-}
-
 // How many lines there is room for, behind so many events: the longest has 45 bytes, and an event's number has 64 bits.
 fn most_lines(room: usize, events: u64) -> usize
     ensures { λ r. ⌜ r ≡ min (room / 45) (2 ^ 64 - 1 - events) ⌝ }
 {
-    least(room / 45, (18446744073709551615 - events) as usize)
+    smaller(room / 45, (18446744073709551615 - events) as usize)
 }
 
 // Lays the line that the table decides, none as long as it may be incomplete. Answers its length.
@@ -161,7 +155,7 @@ pub fn advance(bench: Bench, bytes: &[u8], lines: &mut [u8]) -> Advanced
             return open_table(bytes, lines);
         }
         if bench.refusal == 0 {
-            let count = least(most, bytes.len() / 3);
+            let count = smaller(most, bytes.len() / 3);
             return answer(bench, count, bytes, lines);
         }
     }

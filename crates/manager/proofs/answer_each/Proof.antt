@@ -1,0 +1,98 @@
+-- `manager::answer_each` meets its contract. The loop's invariant is `Answered`: the answers to all events are those stored so far and then those to the
+-- bytes that are left, from the state that the parts are now; and whether that state is well formed is still known. A turn takes the three bytes of one
+-- event; fewer than three are no event. It ends because the bytes left fall. Assumes nothing.
+use Prim.Native.Nat.{_-_}
+use native.Mathlib.Omega.{arith}
+use lib.ListN.{length}
+use Rattle.state.specs.State.{stateOf}
+use Rattle.manager.proofs.AnsweringLaws.{Answered, answered-none, answered-more, answered-all}
+use borrow.Author.Needs.{needs}
+use Rattle.manager.proofs.answer_each.Statement.{statement}
+use Rattle.manager.proofs.answer_each.Tie as tie
+
+abbrev Inv-loop : tie.InvT-loop
+Inv-loop well counts processor-of may-read may-write active₀ unlocked₀ readers₀ writers₀ request₀ events answers₀ at₀ i₀ active unlocked readers writers request answers at i =
+    Answered events well
+    (stateOf counts processor-of may-read may-write active₀ unlocked₀ readers₀ writers₀ request₀)
+    (stateOf counts processor-of may-read may-write active unlocked readers writers request)
+    answers₀ answers at i
+
+abbrev μ-loop : tie.MeasureT-loop
+μ-loop well counts processor-of may-read may-write active₀ unlocked₀ readers₀ writers₀ request₀ events answers₀ at₀ i₀ active unlocked readers writers request answers at i =
+    length events - at
+
+loop-holds : tie.Need-loop-holds Inv-loop μ-loop
+loop-holds c = answered-none _ _ _ _ (c .before .before .pre .0)
+
+sub-loop : tie.Need-sub-loop Inv-loop μ-loop
+sub-loop c = search needs
+
+shared-slice-read-act-known : tie.Need-shared-slice-read-act-known Inv-loop μ-loop
+shared-slice-read-act-known c = search needs
+
+add-act-known : tie.Need-add-act-known Inv-loop μ-loop
+add-act-known c = search needs
+
+shared-slice-read-act-known-2 : tie.Need-shared-slice-read-act-known-2 Inv-loop μ-loop
+shared-slice-read-act-known-2 c = search needs
+
+add-act-known-2 : tie.Need-add-act-known-2 Inv-loop μ-loop
+add-act-known-2 c = search needs
+
+shared-slice-read-act-known-3 : tie.Need-shared-slice-read-act-known-3 Inv-loop μ-loop
+shared-slice-read-act-known-3 c = search needs
+
+act-known-requires : tie.Need-act-known-requires Inv-loop μ-loop
+act-known-requires c κs = c .before .before .before .before .before .before .before .before .before .loop .inv .tested .found
+
+pack-requires : tie.Need-pack-requires Inv-loop μ-loop
+pack-requires c κs = search needs
+
+mul-answers : tie.Need-mul-answers Inv-loop μ-loop
+mul-answers c = search needs
+
+slice-write-answers : tie.Need-slice-write-answers Inv-loop μ-loop
+slice-write-answers c = search needs
+
+add-at : tie.Need-add-at Inv-loop μ-loop
+add-at c = search needs
+
+add-i : tie.Need-add-i Inv-loop μ-loop
+add-i c = search needs
+
+loop-less : tie.Need-loop-less Inv-loop μ-loop
+loop-less c = search needs
+
+loop-again : tie.Need-loop-again Inv-loop μ-loop
+loop-again c =
+    answered-more _ _ _ _ _ _ _ _ (c .before .before .before .before .before .before .before .before .before .before .before .loop .inv) (omega arith) _ _ _ (c .before .act-known .ensures) (c .pack .ensures .0)
+
+same-length : tie.Need-same-length Inv-loop μ-loop
+same-length c = search needs
+
+returns : tie.Need-returns Inv-loop μ-loop
+returns c = answered-all _ _ _ _ _ _ _ _ (c .before .loop .inv) (omega arith)
+
+pub answer-each-spec : {M : Type 1} → statement M
+answer-each-spec =
+    tie.close
+    (tie.spec
+    Inv-loop
+    μ-loop
+    loop-holds
+    sub-loop
+    shared-slice-read-act-known
+    add-act-known
+    shared-slice-read-act-known-2
+    add-act-known-2
+    shared-slice-read-act-known-3
+    act-known-requires
+    pack-requires
+    mul-answers
+    slice-write-answers
+    add-at
+    add-i
+    loop-less
+    loop-again
+    same-length
+    returns)
