@@ -1,7 +1,8 @@
--- A run over the events in some bytes, partway: what is laid so far, and what is left.
+-- A run over the events in some bytes, partway: what is laid so far, and what is left; whether the state is well formed is known all along.
 -- Assumes nothing.
 use Prim.Native.Nat.{ℕ, _+_, _*_, _≤_, _<_}
-use mathlib.Core.Path.{_≡_, refl, sym, ap, ap₂, _∙_}
+use mathlib.Core.Path.{_≡_, refl, sym, subst, ap, ap₂, _∙_}
+use mathlib.Core.Bool.{Bool}
 use mathlib.Core.List.{List, [], _++_, append-assoc, append-nil}
 use native.Mathlib.Numerals.{add-one}
 use native.Mathlib.Omega.{arith}
@@ -12,11 +13,14 @@ use Rattle.state.specs.declared.State.{State}
 use Rattle.manager.specs.Step.{step}
 use Rattle.lines.specs.Lines.{eventLine}
 use Rattle.decimals.specs.Laid.{Laid, laid-then, laid-is}
-use Rattle.record.specs.Record.{eventLines, stateAfter}
-use Rattle.record.specs.RecordLaws.{event-lines-more, state-after-more, event-lines-none, state-after-none}
+use Rattle.manager.specs.Keeping.{Tested, tested-after}
+use Rattle.manager.specs.EventList.{stateAfter, state-after-more, state-after-none}
+use Rattle.record.specs.Record.{eventLines}
+use Rattle.record.specs.RecordLaws.{event-lines-more, event-lines-none}
 
 -- the events up to index `place` are answered: the lines of them all are those laid so far and then those of what is left
-pub record Run (bytes : List ℕ) (s₀ s : State) (n₀ n : ℕ) (buf₀ buf : List ℕ) (place end : ℕ) : Type 0 where
+pub record Run (bytes : List ℕ) (well : Bool) (s₀ s : State) (n₀ n : ℕ) (buf₀ buf : List ℕ) (place end : ℕ) : Type 0 where
+  pub tested : Tested well s
   pub inside : place ≤ length bytes
   pub numbers : 3 * n ≤ 3 * n₀ + place
   pub text : List ℕ
@@ -25,9 +29,10 @@ pub record Run (bytes : List ℕ) (s₀ s : State) (n₀ n : ℕ) (buf₀ buf : 
   pub after : stateAfter s₀ bytes ≡ stateAfter s (drop place bytes)
   pub size : length buf ≡ length buf₀
 
-pub run-start : (bytes : List ℕ) (s : State) (n : ℕ) (buf : List ℕ) → Run bytes s s n n buf buf 0 0
-run-start bytes s n buf =
+pub run-start : (bytes : List ℕ) (well : Bool) (s : State) (n : ℕ) (buf : List ℕ) → Tested well s → Run bytes well s s n n buf buf 0 0
+run-start bytes well s n buf T =
     record {
+      tested = T;
       inside = omega arith;
       numbers = omega arith;
       text = [];
@@ -38,7 +43,7 @@ run-start bytes s n buf =
     }
 
 -- a turn: one event more
-module _ (bytes : List ℕ) (s₀ s : State) (n₀ n : ℕ) (buf₀ buf : List ℕ) (place end : ℕ) (r : Run bytes s₀ s n₀ n buf₀ buf place end) (h : place + 3 ≤ length bytes) where
+module _ (bytes : List ℕ) (well : Bool) (s₀ s : State) (n₀ n : ℕ) (buf₀ buf : List ℕ) (place end : ℕ) (r : Run bytes well s₀ s n₀ n buf₀ buf place end) (h : place + 3 ≤ length bytes) where
   abbrev kind : ℕ
   kind = getD bytes place 0
 
@@ -50,13 +55,14 @@ module _ (bytes : List ℕ) (s₀ s : State) (n₀ n : ℕ) (buf₀ buf : List �
 
   pub run-turn : (s′ : State) (buf′ : List ℕ) (end′ : ℕ) → s′ ≡ step s kind rank object .state
       → Laid buf buf′ end end′ 45 (eventLine (n + 1) kind rank object (step s kind rank object .answer))
-      → Run bytes s₀ s′ n₀ (n + 1) buf₀ buf′ (place + 3) end′
+      → Run bytes well s₀ s′ n₀ (n + 1) buf₀ buf′ (place + 3) end′
   run-turn s′ buf′ end′ e l =
       let line : List ℕ = eventLine (n + 1) kind rank object (step s kind rank object .answer) in
       let rest : List ℕ = drop (place + 3) bytes in
       let p = r .inside in
       let q = r .numbers in
       record {
+        tested = subst (Tested well) (sym e) (tested-after well s (r .tested) kind rank object);
         inside = h;
         numbers = omega arith;
         text = r .text ++ line;
@@ -73,9 +79,9 @@ module _ (bytes : List ℕ) (s₀ s : State) (n₀ n : ℕ) (buf₀ buf : List �
       }
 
 -- fewer than three bytes are left: the lines of them all are laid
-pub run-end : (bytes : List ℕ) (s₀ s : State) (n₀ n : ℕ) (buf₀ buf : List ℕ) (place end : ℕ) → Run bytes s₀ s n₀ n buf₀ buf place end → length bytes < place + 3
+pub run-end : (bytes : List ℕ) (well : Bool) (s₀ s : State) (n₀ n : ℕ) (buf₀ buf : List ℕ) (place end : ℕ) → Run bytes well s₀ s n₀ n buf₀ buf place end → length bytes < place + 3
     → (s ≡ stateAfter s₀ bytes) × Laid buf₀ buf 0 end (15 * length bytes) (eventLines s₀ n₀ bytes)
-run-end bytes s₀ s n₀ n buf₀ buf place end r h =
+run-end bytes well s₀ s n₀ n buf₀ buf place end r h =
     let p = r .inside in
     let few : length (drop place bytes) < 3 = omega (arith, length-drop place bytes) in (
       sym (r .after ∙ state-after-none s (drop place bytes) few),

@@ -3,20 +3,26 @@ ghost use mathlib.Core.Path.{_≡_};
 ghost use Prim.Native.Nat.{_+_, _*_, _/_, _^_, _≤_, _<_};
 ghost use lib.ListN.{length};
 ghost use Rattle.state.specs.State.{stateOf};
+ghost use Rattle.state.specs.WellFormed.{wellFormed};
 ghost use Rattle.manager.specs.Step.{step};
+ghost use Rattle.manager.specs.Keeping.{Tested};
+ghost use Rattle.manager.specs.EventList.{stateAfter};
 ghost use Rattle.lines.specs.Lines.{eventLine};
 ghost use Rattle.decimals.specs.Laid.{Laid};
-ghost use Rattle.record.specs.Record.{eventLines, stateAfter};
+ghost use Rattle.record.specs.Record.{eventLines};
 use lines::lay_event;
+use manager::act_known;
 use ranks::RankSet;
 use state::Counts;
 use state::JobProcessors;
 use state::JobRequests;
 use state::Sets;
 use state::SetsMut;
+use state::fits_sized;
 
-// An event on the parts of a state, in place, and its line laid at the index; answers the index behind it.
+// An event on the parts of a state of which it is known whether it is well formed, in place, and its line laid at the index; answers the index behind it.
 fn lay_answered<'a>(
+    well: bool,
     counts: Counts,
     processor_of: &'a JobProcessors,
     may_read: Sets<'a>,
@@ -33,13 +39,14 @@ fn lay_answered<'a>(
     rank: u8,
     object: u8,
 ) -> usize
-    requires { ⌜ at + 45 ≤ length (now buf) ⌝ }
+    requires { ⌜ (well ≡ wellFormed (stateOf counts (now «processor_of») (now «may_read») (now «may_write») (now active) (now unlocked) (now readers) (now writers) (now request))) × (at + 45 ≤ length (now buf)) ⌝ }
     ensures { λ r. ⌜ (stateOf counts (now («processor_of» .entry)) (now («may_read» .entry)) (now («may_write» .entry)) (now (active .exit)) (now (unlocked .exit)) (now (readers .exit)) (now (writers .exit)) (now (request .exit))
         ≡ step (stateOf counts (now («processor_of» .entry)) (now («may_read» .entry)) (now («may_write» .entry)) (now (active .entry)) (now (unlocked .entry)) (now (readers .entry)) (now (writers .entry)) (now (request .entry))) kind rank object .state)
         × Laid (now (buf .entry)) (now (buf .exit)) at r 45 (eventLine number kind rank object
         (step (stateOf counts (now («processor_of» .entry)) (now («may_read» .entry)) (now («may_write» .entry)) (now (active .entry)) (now (unlocked .entry)) (now (readers .entry)) (now (writers .entry)) (now (request .entry))) kind rank object .answer)) ⌝ }
 {
-    let answer = manager::act(
+    let answer = act_known(
+        well,
         counts,
         processor_of,
         may_read,
@@ -56,7 +63,58 @@ fn lay_answered<'a>(
     lay_event(buf, at, number, kind, rank, object, answer)
 }
 
-// The events in the bytes, with so many before them, on the parts of a state, in place; one or two bytes left over are not looked at.
+// The same, for all events in the bytes, with so many before them; one or two bytes left over are not looked at.
+// Their lines are laid at the front of the buffer; answers the lines' length.
+fn lay_each<'a>(
+    well: bool,
+    counts: Counts,
+    processor_of: &'a JobProcessors,
+    may_read: Sets<'a>,
+    may_write: Sets<'a>,
+    active: &mut RankSet,
+    unlocked: &mut RankSet,
+    readers: SetsMut,
+    writers: SetsMut,
+    request: &mut JobRequests,
+    buf: &mut [u8],
+    events: u64,
+    bytes: &[u8],
+) -> usize
+    requires { ⌜ Tested well (stateOf counts (now «processor_of») (now «may_read») (now «may_write») (now active) (now unlocked) (now readers) (now writers) (now request)) × (15 * length (now bytes) ≤ length (now buf)) × (events + length (now bytes) / 3 < 2 ^ 64) ⌝ }
+    ensures { λ r. ⌜ (stateOf counts (now («processor_of» .entry)) (now («may_read» .entry)) (now («may_write» .entry)) (now (active .exit)) (now (unlocked .exit)) (now (readers .exit)) (now (writers .exit)) (now (request .exit))
+        ≡ stateAfter (stateOf counts (now («processor_of» .entry)) (now («may_read» .entry)) (now («may_write» .entry)) (now (active .entry)) (now (unlocked .entry)) (now (readers .entry)) (now (writers .entry)) (now (request .entry))) (now (bytes .entry)))
+        × Laid (now (buf .entry)) (now (buf .exit)) 0 r (15 * length (now (bytes .entry)))
+        (eventLines (stateOf counts (now («processor_of» .entry)) (now («may_read» .entry)) (now («may_write» .entry)) (now (active .entry)) (now (unlocked .entry)) (now (readers .entry)) (now (writers .entry)) (now (request .entry))) events (now (bytes .entry))) ⌝ }
+{
+    let mut at = 0;
+    let mut end = 0;
+    let mut number = events;
+    while bytes.len() - at >= 3 {
+        number += 1;
+        end = lay_answered(
+            well,
+            counts,
+            processor_of,
+            may_read,
+            may_write,
+            active,
+            unlocked,
+            readers,
+            writers,
+            request,
+            buf,
+            end,
+            number,
+            bytes[at],
+            bytes[at + 1],
+            bytes[at + 2],
+        );
+        at += 3;
+    }
+    end
+}
+
+// The events in the bytes, with so many before them, on the parts of a state, in place: the state is tested once. One or two bytes left over are not looked at.
 // Their lines are laid at the front of the buffer; answers the lines' length.
 pub fn lay_events<'a>(
     counts: Counts,
@@ -78,29 +136,30 @@ pub fn lay_events<'a>(
         × Laid (now (buf .entry)) (now (buf .exit)) 0 r (15 * length (now (bytes .entry)))
         (eventLines (stateOf counts (now («processor_of» .entry)) (now («may_read» .entry)) (now («may_write» .entry)) (now (active .entry)) (now (unlocked .entry)) (now (readers .entry)) (now (writers .entry)) (now (request .entry))) events (now (bytes .entry))) ⌝ }
 {
-    let mut at = 0;
-    let mut end = 0;
-    let mut number = events;
-    while bytes.len() - at >= 3 {
-        number += 1;
-        end = lay_answered(
-            counts,
-            processor_of,
-            may_read,
-            may_write,
-            active,
-            unlocked,
-            readers,
-            writers,
-            request,
-            buf,
-            end,
-            number,
-            bytes[at],
-            bytes[at + 1],
-            bytes[at + 2],
-        );
-        at += 3;
-    }
-    end
+    let well = fits_sized(
+        counts,
+        processor_of,
+        may_read,
+        may_write,
+        *active,
+        *unlocked,
+        readers,
+        writers,
+        request,
+    );
+    lay_each(
+        well,
+        counts,
+        processor_of,
+        may_read,
+        may_write,
+        active,
+        unlocked,
+        readers,
+        writers,
+        request,
+        buf,
+        events,
+        bytes,
+    )
 }

@@ -20,7 +20,8 @@ use Rattle.table.specs.Reading.{readTable}
 use Rattle.table.specs.Fresh.{read-refusal, read-accepted, read-refused}
 use Rattle.table.specs.Decided.{table-decided}
 use Rattle.lines.specs.Lines.{headerLine, endLine, shortLine}
-use Rattle.record.specs.Record.{eventLines, stateAfter, lastLine, recordBehind, recordOf}
+use Rattle.manager.specs.EventList.{stateAfter}
+use Rattle.record.specs.Record.{eventLines, lastLine, recordBehind, recordOf}
 use Rattle.record.specs.RecordLaws.{event-lines-join, used-within}
 use Rattle.stream.specs.declared.Bench.{Bench}
 use Rattle.stream.specs.Parts.{Advance, opened, opening, answering, unchanged, advance}

@@ -14,7 +14,8 @@ use Rattle.table.specs.declared.TableRead.{TableRead}
 use Rattle.table.specs.Reading.{refusedRead, readTable}
 use Rattle.lines.specs.Lines.{headerLine, endLine, shortLine, refusedLine}
 use Rattle.decimals.specs.Laid.{Laid}
-use Rattle.record.specs.Record.{eventLines, stateAfter}
+use Rattle.manager.specs.EventList.{stateAfter}
+use Rattle.record.specs.Record.{eventLines}
 use Rattle.stream.specs.declared.Bench.{Bench}
 use Rattle.stream.specs.declared.Advanced.{Advanced}
 

@@ -9,8 +9,8 @@ use borrow.Author.Needs.{needs}
 use Rattle.record.proofs.lay_answered.Statement.{statement}
 use Rattle.record.proofs.lay_answered.Tie as tie
 
-act-requires : tie.Need-act-requires
-act-requires c κs = search needs
+act-known-requires : tie.Need-act-known-requires
+act-known-requires c κs = search needs
 
 lay-event-requires : tie.Need-lay-event-requires
 lay-event-requires c κs = search needs
@@ -21,11 +21,11 @@ same-length c = search needs
 returns : tie.Need-returns
 returns c =
     let a = c .before .before .before .before .before .before .before .before .before .before .before .args in
-    let answered = c .before .before .before .before .act .ensures in (
+    let answered = c .before .before .before .before .act-known .ensures in (
       ap (λ (o : Outcome). o .state) answered,
       laid-is (c .before .before .lay-event .ensures)
           (ap (λ (o : Outcome). eventLine (a .number) (a .kind) (a .rank) (a .object) (o .answer)) answered) (le-refl 45),
     )
 
 pub lay-answered-spec : {M : Type 1} → statement M
-lay-answered-spec = tie.close (tie.spec act-requires lay-event-requires same-length returns)
+lay-answered-spec = tie.close (tie.spec act-known-requires lay-event-requires same-length returns)
