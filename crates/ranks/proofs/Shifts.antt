@@ -1,13 +1,13 @@
 -- What the code computes of a word is what `specs/Ranks.antt` says: shifts by a rank, and the difference that wraps.
 -- Assumes nothing.
-use mathlib.Core.Path.{_≡_, refl, ap, _∙_}
+use mathlib.Core.Path.{_≡_, ap, _∙_}
 use Prim.Native.Nat.{ℕ, zero, suc, _+_, _-_, _*_, _/_, _%_, _^_, _≤_, _<_}
 use native.Mathlib.Nat.{one-mul}
 use native.Mathlib.Omega.{arith}
 use lib.Dec.{eqb}
 use lib.Pow.{shl-exact, ones-split, ones-lt, high}
-use lib.Bits.{bitAnd, bitOr, bitXor, and-mask, and-zero-l}
-use Rattle.ranks.specs.Ranks.{member, with, without, butFirst, upTo, lessOne}
+use lib.Bits.{bitAnd, bitOr, bitXor, and-mask}
+use Rattle.ranks.specs.Ranks.{member, with, without, upTo, lessOne}
 
 -- the bit of a rank, as a shift makes it
 single : (i : ℕ) → suc i ≤ 64 → (1 * 2 ^ (suc i - 1)) % 2 ^ 64 ≡ 2 ^ i

@@ -3,11 +3,10 @@
 use mathlib.Core.Path.{_≡_, refl, sym, ap, ap₂, _∙_}
 use mathlib.Core.Logic.{_⊎_, inl, inr}
 use mathlib.Core.Bool.{Bool, true, false, _&&_, _||_}
-use Prim.Native.Nat.{ℕ, zero, suc, _+_, _-_, _*_, _/_, _%_, _^_, _≤_, _<_, min, max}
+use Prim.Native.Nat.{ℕ, zero, suc, _+_, _-_, _*_, _/_, _%_, _^_, _<_, min, max}
 use native.Mathlib.Nat.{pow-suc, eq-zero-or-pos}
 use native.Mathlib.Omega.{arith}
-use lib.Dec.{eqb}
-use lib.Bits.{bitAnd, bitOr, and-step, or-step, and-self, and-zero-l, and-zero-r, or-zero-l}
+use lib.Bits.{bitAnd, and-step, or-step, and-self, and-zero-l, and-zero-r, or-zero-l}
 use borrow.Author.Tests.{eqb-true, eq-eqb, lt-ltb}
 use Rattle.basics.specs.Choice.{same-test, and-true, and-left, and-right, or-right}
 use Rattle.ranks.specs.Ranks.{wordBits, isEmpty, union, butFirst, subset, disjoint, atMostOne, lessOne}

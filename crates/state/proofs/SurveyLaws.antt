@@ -2,7 +2,6 @@
 -- if and only if each object's do.
 -- Assumes nothing.
 use mathlib.Core.Path.{_≡_, refl, sym, ap, ap₂, _∙_}
-use mathlib.Core.Logic.{_⊎_, inl, inr}
 use mathlib.Core.Bool.{Bool, true, false, _&&_, _||_}
 use mathlib.Core.List.{List}
 use Prim.Native.Nat.{ℕ, _+_, _-_, _^_, _≤_, _<_}
@@ -10,8 +9,8 @@ use native.Mathlib.Omega.{arith}
 use native.Mathlib.Decide.{decLe}
 use lib.Dec.{eqb}
 use lib.Bits.{bitAnd, and-zero-l, and-zero-r, or-zero-r}
-use borrow.Author.Tests.{eqb-true, eq-eqb, lt-leb}
-use Rattle.basics.specs.Choice.{between, same-test, and-true, and-left, and-right, or-right, between-true, inside-between}
+use borrow.Author.Tests.{eqb-true, eq-eqb}
+use Rattle.basics.specs.Choice.{same-test, and-true, and-left, and-right, or-right, between-true, inside-between}
 use Rattle.basics.specs.Loops.{every, every-at, every-true, every-split}
 use Rattle.basics.specs.Arrays.{at}
 use Rattle.ranks.specs.Ranks.{wordBits, isEmpty, union, common, minus, subset, atMostOne, upTo, lessOne, unions}

@@ -6,7 +6,6 @@ use borrow.Author.Tests.{not-true, not-false}
 use Rattle.state.specs.declared.State.{State}
 use Rattle.state.specs.State.{stateOf}
 use Rattle.manager.specs.Step.{step-8}
-use borrow.Author.Needs.{needs}
 use Rattle.manager.proofs.act_known.Statement.{statement}
 use Rattle.manager.proofs.act_known.Tie as tie
 

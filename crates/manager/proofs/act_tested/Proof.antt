@@ -6,7 +6,6 @@ use Rattle.state.specs.declared.State.{State}
 use Rattle.state.specs.State.{stateOf}
 use Rattle.refusals.specs.Accepting.{in-range}
 use Rattle.manager.specs.Step.{step-performs}
-use borrow.Author.Needs.{needs}
 use Rattle.manager.proofs.act_tested.Statement.{statement}
 use Rattle.manager.proofs.act_tested.Tie as tie
 

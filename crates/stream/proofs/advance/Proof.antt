@@ -32,13 +32,13 @@ returns c =
     let some : 1 ≤ most = omega (arith, c .before .before .before .before .before .before .before .most-lines .ensures, c .before .before .before .before .before .before .if1 .taken) in
     advances-is (c .before .before .open-table .ensures) (advance-open most r bytes some (c .before .before .before .before .if2 .taken))
 
-least-requires : tie.Need-least-requires
-least-requires c κs = search needs
+smaller-requires : tie.Need-smaller-requires
+smaller-requires c κs = search needs
 
 answer-requires : tie.Need-answer-requires
 answer-requires c κs =
     let most = c .before .before .before .before .before .before .before .most-lines .ensures in
-    let count = c .before .least .ensures in
+    let count = c .before .smaller .ensures in
     (omega (arith, count), omega (arith, most, count), omega (arith, most, count))
 
 same-length-2 : tie.Need-same-length-2
@@ -50,7 +50,7 @@ returns-2 c =
     let bytes : List ℕ = now (c .before .before .before .before .before .before .before .before .before .before .before .before .before .args .bytes) in
     let most : ℕ = mostLines (length (now (c .before .before .before .before .before .before .before .before .before .before .before .before .before .args .lines))) r in
     let some : 1 ≤ most = omega (arith, c .before .before .before .before .before .before .before .before .before .before .most-lines .ensures, c .before .before .before .before .before .before .before .before .before .if1 .taken) in
-    let count = c .before .before .before .before .least .ensures ∙ ap (λ (n : ℕ). min n (length bytes / 3)) (c .before .before .before .before .before .before .before .before .before .before .most-lines .ensures) in
+    let count = c .before .before .before .before .smaller .ensures ∙ ap (λ (n : ℕ). min n (length bytes / 3)) (c .before .before .before .before .before .before .before .before .before .before .most-lines .ensures) in
     advances-is (c .before .before .answer .ensures) (advance-events most r bytes some (c .before .before .before .before .before .if3 .taken) ∙ ap (λ (n : ℕ). answering n r bytes) (sym count))
 
 returns-3 : tie.Need-returns-3
@@ -73,7 +73,7 @@ advance-spec =
     open-table-requires
     same-length
     returns
-    least-requires
+    smaller-requires
     answer-requires
     same-length-2
     returns-2
