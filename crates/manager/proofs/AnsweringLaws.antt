@@ -12,8 +12,6 @@ use Rattle.basics.specs.Threes.{drop-three}
 use Rattle.basics.specs.Stores.{stored-more}
 use Rattle.state.specs.declared.State.{State}
 use Rattle.events.specs.declared.Outcome.{Outcome}
-use Rattle.events.specs.declared.Answer.{Answer}
-use Rattle.events.specs.Events.{outcome}
 use Rattle.events.specs.Packing.{packed}
 use Rattle.manager.specs.Step.{step}
 use Rattle.manager.specs.Keeping.{Tested, tested-after}
@@ -50,12 +48,10 @@ module _ (bytes : List ℕ) (well : Bool) (s₀ s : State) (list₀ list : List 
   abbrev does : Outcome
   does = step s (getD bytes place 0) (getD bytes (place + 1) 0) (getD bytes (place + 2) 0)
 
-  pub answered-more : (answer : Answer) (s′ : State) (v : ℕ) → outcome answer s′ ≡ does → v ≡ packed answer
+  pub answered-more : (s′ : State) (v : ℕ) → s′ ≡ does .state → v ≡ packed (does .answer)
       → Answered bytes well s₀ s′ list₀ (set list i v) (place + 3) (i + 1)
-  answered-more answer s′ v e p =
+  answered-more s′ v state-is answer-is =
       let rest : List ℕ = drop (place + 3) bytes in
-      let state-is : s′ ≡ does .state = ap (λ (x : Outcome). x .state) e in
-      let answer-is : v ≡ packed (does .answer) = p ∙ ap (λ (x : Outcome). packed (x .answer)) e in
       let more = stored-more list₀ list (r .text) i v (r .stored) (r .long) in
       let q = r .events in
       record {

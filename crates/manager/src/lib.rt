@@ -8,6 +8,8 @@ ghost use lib.Seq.{sets};
 ghost use Rattle.state.specs.State.{stateOf};
 ghost use Rattle.state.specs.WellFormed.{wellFormed};
 ghost use Rattle.state.specs.Facts.{Sized};
+ghost use Rattle.events.specs.Answers.{paper};
+ghost use Rattle.events.specs.Packing.{packed, unpacked};
 ghost use Rattle.events.specs.Events.{outcome};
 ghost use Rattle.manager.specs.Step.{step};
 ghost use Rattle.manager.specs.Keeping.{Tested};
@@ -100,6 +102,46 @@ pub fn act_known<'a>(
     )
 }
 
+// The same, with the answer packed into a number that can be taken apart again.
+pub fn act_packed<'a>(
+    well: bool,
+    counts: Counts,
+    processor_of: &'a JobProcessors,
+    may_read: Sets<'a>,
+    may_write: Sets<'a>,
+    active: &mut RankSet,
+    unlocked: &mut RankSet,
+    readers: SetsMut,
+    writers: SetsMut,
+    request: &mut JobRequests,
+    kind: u8,
+    rank: u8,
+    object: u8,
+) -> u32
+    requires { ⌜ well ≡ wellFormed (stateOf counts (now «processor_of») (now «may_read») (now «may_write») (now active) (now unlocked) (now readers) (now writers) (now request)) ⌝ }
+    ensures answer { λ r. ⌜ r ≡ packed (step (stateOf counts (now («processor_of» .entry)) (now («may_read» .entry)) (now («may_write» .entry)) (now (active .entry)) (now (unlocked .entry)) (now (readers .entry)) (now (writers .entry)) (now (request .entry))) kind rank object .answer) ⌝ }
+    ensures apart { λ r. ⌜ unpacked r ≡ paper (step (stateOf counts (now («processor_of» .entry)) (now («may_read» .entry)) (now («may_write» .entry)) (now (active .entry)) (now (unlocked .entry)) (now (readers .entry)) (now (writers .entry)) (now (request .entry))) kind rank object .answer) ⌝ }
+    ensures next { λ _. ⌜ stateOf counts (now («processor_of» .entry)) (now («may_read» .entry)) (now («may_write» .entry)) (now (active .exit)) (now (unlocked .exit)) (now (readers .exit)) (now (writers .exit)) (now (request .exit))
+        ≡ step (stateOf counts (now («processor_of» .entry)) (now («may_read» .entry)) (now («may_write» .entry)) (now (active .entry)) (now (unlocked .entry)) (now (readers .entry)) (now (writers .entry)) (now (request .entry))) kind rank object .state ⌝ }
+{
+    let answer = act_known(
+        well,
+        counts,
+        processor_of,
+        may_read,
+        may_write,
+        active,
+        unlocked,
+        readers,
+        writers,
+        request,
+        kind,
+        rank,
+        object,
+    );
+    pack(answer)
+}
+
 // An event in any state: the test of the state, then the event.
 pub fn act<'a>(
     counts: Counts,
@@ -170,7 +212,7 @@ fn answer_each<'a>(
     let mut at = 0;
     let mut i = 0;
     while events.len() - at >= 3 {
-        let answer = act_known(
+        answers[i] = act_packed(
             well,
             counts,
             processor_of,
@@ -185,7 +227,6 @@ fn answer_each<'a>(
             events[at + 1],
             events[at + 2],
         );
-        answers[i] = pack(answer);
         at += 3;
         i += 1;
     }

@@ -12,13 +12,13 @@ mod asking;
 mod entries;
 mod tables;
 
-use events::pack;
 use ranks::RankSet;
 use state::Counts;
 use state::JobProcessors;
 use state::JobRequests;
 use state::Sets;
 use state::SetsMut;
+use state::fits;
 
 // An event: its answer packed into a number that can be taken apart again, and the parts of the next state. A refusal, by 8 to 18, leaves every part as it was.
 #[no_mangle]
@@ -52,7 +52,19 @@ pub extern "C" fn vongselik_parts_event<'a>(
         jobs,
         objects,
     };
-    let answer = manager::act(
+    let well = fits(
+        counts,
+        processor_of,
+        may_read,
+        may_write,
+        *active,
+        *unlocked,
+        readers,
+        writers,
+        request,
+    );
+    manager::act_packed(
+        well,
         counts,
         processor_of,
         may_read,
@@ -65,8 +77,7 @@ pub extern "C" fn vongselik_parts_event<'a>(
         kind,
         rank,
         object,
-    );
-    pack(answer)
+    )
 }
 
 // Events, one after the other, in the bytes: as many as the bytes and the list of answers both hold whole, their packed answers at the front of the list and

@@ -27,26 +27,23 @@ loop-holds c = answered-none _ _ _ _ (c .before .before .pre .0)
 sub-loop : tie.Need-sub-loop Inv-loop μ-loop
 sub-loop c = search needs
 
-shared-slice-read-act-known : tie.Need-shared-slice-read-act-known Inv-loop μ-loop
-shared-slice-read-act-known c = search needs
+shared-slice-read-act-packed : tie.Need-shared-slice-read-act-packed Inv-loop μ-loop
+shared-slice-read-act-packed c = search needs
 
-add-act-known : tie.Need-add-act-known Inv-loop μ-loop
-add-act-known c = search needs
+add-act-packed : tie.Need-add-act-packed Inv-loop μ-loop
+add-act-packed c = search needs
 
-shared-slice-read-act-known-2 : tie.Need-shared-slice-read-act-known-2 Inv-loop μ-loop
-shared-slice-read-act-known-2 c = search needs
+shared-slice-read-act-packed-2 : tie.Need-shared-slice-read-act-packed-2 Inv-loop μ-loop
+shared-slice-read-act-packed-2 c = search needs
 
-add-act-known-2 : tie.Need-add-act-known-2 Inv-loop μ-loop
-add-act-known-2 c = search needs
+add-act-packed-2 : tie.Need-add-act-packed-2 Inv-loop μ-loop
+add-act-packed-2 c = search needs
 
-shared-slice-read-act-known-3 : tie.Need-shared-slice-read-act-known-3 Inv-loop μ-loop
-shared-slice-read-act-known-3 c = search needs
+shared-slice-read-act-packed-3 : tie.Need-shared-slice-read-act-packed-3 Inv-loop μ-loop
+shared-slice-read-act-packed-3 c = search needs
 
-act-known-requires : tie.Need-act-known-requires Inv-loop μ-loop
-act-known-requires c κs = c .before .before .before .before .before .before .before .before .before .loop .inv .tested .found
-
-pack-requires : tie.Need-pack-requires Inv-loop μ-loop
-pack-requires c κs = search needs
+act-packed-requires : tie.Need-act-packed-requires Inv-loop μ-loop
+act-packed-requires c κs = c .before .before .before .before .before .before .before .before .before .loop .inv .tested .found
 
 mul-answers : tie.Need-mul-answers Inv-loop μ-loop
 mul-answers c = search needs
@@ -65,7 +62,7 @@ loop-less c = search needs
 
 loop-again : tie.Need-loop-again Inv-loop μ-loop
 loop-again c =
-    answered-more _ _ _ _ _ _ _ _ (c .before .before .before .before .before .before .before .before .before .before .before .loop .inv) (omega arith) _ _ _ (c .before .act-known .ensures) (c .pack .ensures .0)
+    answered-more _ _ _ _ _ _ _ _ (c .before .before .before .before .before .before .before .before .before .before .loop .inv) (omega arith) _ _ (c .act-packed .ensures .1 .1) (c .act-packed .ensures .0)
 
 same-length : tie.Need-same-length Inv-loop μ-loop
 same-length c = search needs
@@ -81,13 +78,12 @@ answer-each-spec =
     μ-loop
     loop-holds
     sub-loop
-    shared-slice-read-act-known
-    add-act-known
-    shared-slice-read-act-known-2
-    add-act-known-2
-    shared-slice-read-act-known-3
-    act-known-requires
-    pack-requires
+    shared-slice-read-act-packed
+    add-act-packed
+    shared-slice-read-act-packed-2
+    add-act-packed-2
+    shared-slice-read-act-packed-3
+    act-packed-requires
     mul-answers
     slice-write-answers
     add-at
