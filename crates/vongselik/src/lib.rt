@@ -1,15 +1,13 @@
 // The lock manager for C: events, questions and tables on the parts of a state of the caller's, each lent by itself.
 ghost use mathlib.Core.Path.{_≡_};
-ghost use mathlib.Core.List.{_++_};
-ghost use lib.ListN.{drop};
 ghost use Rattle.state.specs.State.{countsOf, stateOf};
 ghost use Rattle.events.specs.Answers.{paper};
 ghost use Rattle.events.specs.Packing.{packed, unpacked};
 ghost use Rattle.manager.specs.Step.{step};
-ghost use Rattle.manager.specs.EventList.{stateAfter, answersTo, eventCount, wholeEvents};
 
 mod asking;
 mod entries;
+mod lists;
 mod tables;
 
 use ranks::RankSet;
@@ -77,53 +75,5 @@ pub extern "C" fn vongselik_parts_event<'a>(
         kind,
         rank,
         object,
-    )
-}
-
-// Events, one after the other, in the bytes: as many as the bytes and the list of answers both hold whole, their packed answers at the front of the list and
-// the parts of the state behind them, as by a call for each; the state is tested once. The answers behind them stay. Answers how many events there were.
-#[no_mangle]
-pub extern "C" fn vongselik_parts_events<'a>(
-    processors: u8,
-    jobs: u8,
-    objects: u8,
-    processor_of: &'a JobProcessors,
-    may_read: Sets<'a>,
-    may_write: Sets<'a>,
-    active: &mut RankSet,
-    unlocked: &mut RankSet,
-    readers: SetsMut,
-    writers: SetsMut,
-    request: &mut JobRequests,
-    events: &[u8],
-    answers: &mut [u32],
-) -> usize
-    ensures number { λ r. ⌜ r ≡ eventCount (now (events .entry)) (now (answers .entry)) ⌝ }
-    ensures answers { λ r. ⌜ now (answers .exit) ≡ answersTo (stateOf (countsOf processors jobs objects) (now («processor_of» .entry)) (now («may_read» .entry)) (now («may_write» .entry))
-        (now (active .entry)) (now (unlocked .entry)) (now (readers .entry)) (now (writers .entry)) (now (request .entry)))
-        (wholeEvents (now (events .entry)) (now (answers .entry))) ++ drop (eventCount (now (events .entry)) (now (answers .entry))) (now (answers .entry)) ⌝ }
-    ensures state { λ r. ⌜ stateOf (countsOf processors jobs objects) (now («processor_of» .entry)) (now («may_read» .entry)) (now («may_write» .entry))
-        (now (active .exit)) (now (unlocked .exit)) (now (readers .exit)) (now (writers .exit)) (now (request .exit))
-        ≡ stateAfter (stateOf (countsOf processors jobs objects) (now («processor_of» .entry)) (now («may_read» .entry)) (now («may_write» .entry))
-        (now (active .entry)) (now (unlocked .entry)) (now (readers .entry)) (now (writers .entry)) (now (request .entry)))
-        (wholeEvents (now (events .entry)) (now (answers .entry))) ⌝ }
-{
-    let counts = Counts {
-        processors,
-        jobs,
-        objects,
-    };
-    manager::act_each(
-        counts,
-        processor_of,
-        may_read,
-        may_write,
-        active,
-        unlocked,
-        readers,
-        writers,
-        request,
-        events,
-        answers,
     )
 }
