@@ -1,7 +1,7 @@
 // What refusal 8 asks of the jobs: their processors, and what they wait for.
 ghost use mathlib.Core.Path.{_≡_};
 ghost use mathlib.Core.List.{[]};
-ghost use Prim.Native.Nat.{_+_, _≤_};
+ghost use Prim.Native.Nat.{_+_, _≤_, max};
 ghost use lib.Dec.{eqb};
 ghost use Rattle.basics.specs.Arrays.{at};
 ghost use Rattle.basics.specs.Choice.{between};
@@ -30,20 +30,27 @@ pub fn counts_within(counts: Counts) -> bool
     within(1, 8, counts.processors) & within(1, 64, counts.jobs) & within(1, 128, counts.objects)
 }
 
+// The larger of two numbers.
+fn larger(a: u8, b: u8) -> u8
+    ensures { λ r. ⌜ r ≡ max a b ⌝ }
+{
+    if a < b { b } else { a }
+}
+
 // Whether each job's processor is one of the table's.
 pub fn processors_fit(counts: Counts, processor_of: &JobProcessors) -> bool
-    requires { ⌜ counts .jobs ≤ mostJobs ⌝ }
+    requires { ⌜ (1 ≤ counts .processors) × (counts .jobs ≤ mostJobs) ⌝ }
     ensures { λ r. ⌜ r ≡ processorsFit (stateOf counts (now («processor_of» .entry)) [] [] 0 0 [] [] []) ⌝ }
 {
     let processors = counts.processors;
     let count = counts.jobs as usize;
-    let mut fit = true;
+    let mut last = 0;
     let mut i: usize = 0;
     while i < count {
-        fit = fit & (processor_of[i] < processors);
+        last = larger(last, processor_of[i]);
         i += 1;
     }
-    fit
+    last < processors
 }
 
 // Of two sets, that of the mode: 1 read, 2 write.

@@ -55,7 +55,7 @@ is-subset-requires-4 : tie.Need-is-subset-requires-4
 is-subset-requires-4 c κs = search needs
 
 processors-fit-requires : tie.Need-processors-fit-requires
-processors-fit-requires c κs = counts-within (c .before .before .before .before .before .before .before .before .before .before .before .args .counts) (sym (c .before .before .before .before .before .before .before .before .before .before .counts-within .ensures) ∙ not-false (c .before .before .before .before .before .before .before .before .before .before .counts-within .result) (c .before .before .before .before .before .before .before .before .before .if1 .left)) .jobs .1
+processors-fit-requires c κs = let w = counts-within (c .before .before .before .before .before .before .before .before .before .before .before .args .counts) (sym (c .before .before .before .before .before .before .before .before .before .before .counts-within .ensures) ∙ not-false (c .before .before .before .before .before .before .before .before .before .before .counts-within .result) (c .before .before .before .before .before .before .before .before .before .if1 .left)) in (w .processors .0, w .jobs .1)
 
 waits-fit-requires : tie.Need-waits-fit-requires
 waits-fit-requires c κs = counts-within (c .before .before .before .before .before .before .before .before .before .before .before .before .args .counts) (sym (c .before .before .before .before .before .before .before .before .before .before .before .counts-within .ensures) ∙ not-false (c .before .before .before .before .before .before .before .before .before .before .before .counts-within .result) (c .before .before .before .before .before .before .before .before .before .before .if1 .left)) .objects .1
