@@ -70,8 +70,8 @@ pub fn fits<'a>(
         return false;
     }
     let all = ranks::up_to(counts.jobs);
-    let seen = survey_objects(may_read, may_write, readers, writers, counts.objects);
     let outside = union_outside(may_read, may_write, readers, writers, counts.objects);
+    let seen = survey_objects(may_read, may_write, readers, writers, counts.objects);
     ranks::is_empty(seen.wrong)
         & ranks::is_empty(outside)
         & ranks::is_subset(seen.declared, all)

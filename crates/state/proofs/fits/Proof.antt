@@ -30,11 +30,11 @@ returns c = sym (bad-counts (whole (c .before .before)) (sym (c .before .counts-
 up-to-requires : tie.Need-up-to-requires
 up-to-requires c κs = counts-within (c .before .before .args .counts) (sym (c .before .counts-within .ensures) ∙ not-false (c .before .counts-within .result) (c .if1 .left)) .jobs .1
 
-survey-objects-requires : tie.Need-survey-objects-requires
-survey-objects-requires c κs = counts-within (c .before .before .before .args .counts) (sym (c .before .before .counts-within .ensures) ∙ not-false (c .before .before .counts-within .result) (c .before .if1 .left)) .objects .1
-
 union-outside-requires : tie.Need-union-outside-requires
-union-outside-requires c κs = counts-within (c .before .before .before .before .args .counts) (sym (c .before .before .before .counts-within .ensures) ∙ not-false (c .before .before .before .counts-within .result) (c .before .before .if1 .left)) .objects .1
+union-outside-requires c κs = counts-within (c .before .before .before .args .counts) (sym (c .before .before .counts-within .ensures) ∙ not-false (c .before .before .counts-within .result) (c .before .if1 .left)) .objects .1
+
+survey-objects-requires : tie.Need-survey-objects-requires
+survey-objects-requires c κs = counts-within (c .before .before .before .before .args .counts) (sym (c .before .before .before .counts-within .ensures) ∙ not-false (c .before .before .before .counts-within .result) (c .before .before .if1 .left)) .objects .1
 
 is-empty-requires : tie.Need-is-empty-requires
 is-empty-requires c κs = search needs
@@ -64,14 +64,14 @@ returns-2 : tie.Need-returns-2
 unfolding processorsFit waitsFit
 returns-2 c =
     let s = whole (c .before .before .before .before .before .before .before .before .before .before .before .before .before) in
-    let seen = c .before .before .before .before .before .before .before .before .before .survey-objects .result in
-    let outside = c .before .before .before .before .before .before .before .before .union-outside .result in
+    let seen = c .before .before .before .before .before .before .before .before .survey-objects .result in
+    let outside = c .before .before .before .before .before .before .before .before .before .union-outside .result in
     let all = c .before .before .before .before .before .before .before .before .before .before .up-to .ensures in
     let declared = c .before .before .before .before .before .is-subset .ensures ∙ ap (subset (seen .declared)) all in
     let active = c .before .before .before .is-subset3 .ensures ∙ ap (subset (s .active)) all in
     let objects = ap₂ _&&_ (ap₂ _&&_ (ap₂ _&&_ (c .before .before .before .before .before .before .before .is-empty .ensures) (c .before .before .before .before .before .before .is-empty2 .ensures)) declared) (c .before .before .before .before .is-subset2 .ensures) in
     ap₂ _&&_ (ap₂ _&&_ (ap₂ _&&_ (ap₂ _&&_ objects active) (c .before .before .is-subset4 .ensures)) (c .before .processors-fit .ensures)) (c .waits-fit .ensures)
-    ∙ tests-well s (sym (c .before .before .before .before .before .before .before .before .before .before .before .before .counts-within .ensures) ∙ not-false (c .before .before .before .before .before .before .before .before .before .before .before .before .counts-within .result) (c .before .before .before .before .before .before .before .before .before .before .before .if1 .left)) seen outside (c .before .before .before .before .before .before .before .before .before .survey-objects .ensures) (c .before .before .before .before .before .before .before .before .union-outside .ensures)
+    ∙ tests-well s (sym (c .before .before .before .before .before .before .before .before .before .before .before .before .counts-within .ensures) ∙ not-false (c .before .before .before .before .before .before .before .before .before .before .before .before .counts-within .result) (c .before .before .before .before .before .before .before .before .before .before .before .if1 .left)) seen outside (c .before .before .before .before .before .before .before .before .survey-objects .ensures) (c .before .before .before .before .before .before .before .before .before .union-outside .ensures)
 
 pub fits-spec : {M : Type 1} → statement M
 fits-spec =
@@ -80,8 +80,8 @@ fits-spec =
     counts-within-requires
     returns
     up-to-requires
-    survey-objects-requires
     union-outside-requires
+    survey-objects-requires
     is-empty-requires
     is-empty-requires-2
     is-subset-requires
