@@ -3,7 +3,8 @@ ghost use mathlib.Core.Path.{_≡_};
 ghost use Prim.Native.Nat.{_≤_};
 ghost use Rattle.basics.specs.Arrays.{put};
 ghost use Rattle.ranks.specs.Ranks as R;
-ghost use Rattle.state.specs.State.{mostJobs, mostObjects, modeOfRequest, objectOfRequest, grantReaders, grantWriters, releaseSet, releaseSets};
+ghost use Rattle.state.specs.State.{mostJobs, mostObjects, modeOfRequest, objectOfRequest, grantReaders, grantWriters, releaseReaders, releaseSets};
+use ranks::RankSet;
 use state::JobRequests;
 use state::SetsMut;
 
@@ -34,13 +35,15 @@ pub fn grant(
     }
 }
 
-// Takes the rank out of the object's set.
-pub fn release_set(sets: SetsMut, rank: u8, object: u8)
+// Takes the rank's read lock on the object away, and marks the rank as one that has unlocked.
+pub fn release(unlocked: &mut RankSet, readers: SetsMut, rank: u8, object: u8)
     requires { ⌜ (1 ≤ rank) × (rank ≤ mostJobs) × (1 ≤ object) × (object ≤ mostObjects) ⌝ }
-    ensures { λ _. ⌜ now (sets .exit) ≡ releaseSet rank object (now (sets .entry)) ⌝ }
+    ensures { λ _. ⌜ (now (unlocked .exit) ≡ R.with (now (unlocked .entry)) rank)
+        × (now (readers .exit) ≡ releaseReaders rank object (now (readers .entry))) ⌝ }
 {
     let i = (object - 1) as usize;
-    sets[i] = ranks::without(sets[i], rank);
+    *unlocked = ranks::with(*unlocked, rank);
+    readers[i] = ranks::without(readers[i], rank);
 }
 
 // Takes the rank out of every set.

@@ -37,7 +37,7 @@ woken s r = if eqb r 0 then s else grant s (requestedMode s r) r (requestedObjec
 unfoldable pub wake : State → Outcome
 wake s = outcome (Done (wakeable s)) (woken s (wakeable s))
 
--- "4 unlock: gives up a held lock of either mode."
+-- "4 unlock": "Unlock is for read locks from now on." (02, CR 1)
 abbrev pub unlock : State → ℕ → ℕ → Outcome
 unlock s r o = wake (release s r o)
 

@@ -13,7 +13,7 @@ use Rattle.state.specs.Facts.{RequestFacts, Facts}
 use Rattle.state.specs.Keeping.{activate-keeps, await-keeps, release-keeps, end-keeps, grant-keeps}
 use Rattle.rule.specs.Granting.{passes, wakes, wakeable}
 use Rattle.rule.specs.Conflicts.{no-conflict}
-use Rattle.rule.specs.WakeLaws.{Found, wakeable-found, wakes-is}
+use Rattle.rule.specs.WakeLaws.{FoundAt, Found, wakeable-found, wakes-is}
 use Rattle.refusals.specs.Refusals.{eventRefusal}
 use Rattle.refusals.specs.AcceptedEvent.{AcceptedEvent, event-not-refused, not-waiting, read-facts, write-facts}
 use Rattle.events.specs.declared.Answer.{Answer}
@@ -39,21 +39,26 @@ module _ (s : State) (F : Facts s) (r : ℕ) (low : 1 ≤ r) (high : r ≤ s .co
 -- ---- the search for a waiting job
 
 -- a job that is woken gets the lock that it asked for
-pub woken-granted : (s : State) (w : ℕ) → 1 ≤ w → woken s w ≡ grant s (requestedMode s w) w (requestedObject s w)
+woken-granted : (s : State) (w : ℕ) → 1 ≤ w → woken s w ≡ grant s (requestedMode s w) w (requestedObject s w)
 unfolding woken
 woken-granted s w low = simp (ne-eqb w 0 (λ e. omega arith))
 
--- it finds nobody, or a job whose request passes
-pub woken-keeps : (s : State) → Facts s → Facts (woken s (wakeable s))
+-- the search finds nobody, or a job whose request passes: what holds in both cases holds of what it finds and the state with that job woken
+pub by-search : (s : State) (P : ℕ → State → Type 0) → (((i : ℕ) → 1 ≤ i → i ≤ s .counts .jobs → wakes s i ≡ 0) → P 0 s)
+    → ((w : ℕ) → FoundAt (s .counts .jobs) (wakes s) w → P w (grant s (requestedMode s w) w (requestedObject s w)))
+    → P (wakeable s) (woken s (wakeable s))
 unfolding woken
-woken-keeps s F = go (wakeable s) (wakeable-found s)
+by-search s P none one = go (wakeable s) (wakeable-found s)
   where
-    go : (w : ℕ) → Found (s .counts .jobs) (wakes s) w → Facts (woken s w)
-    go w (inl z) = subst (λ v. Facts (woken s v)) (sym (z .0)) F
-    go w (inr W) =
-        let is = wakes-is s w (W .low) (W .itself) in
-        subst Facts (sym (woken-granted s w (W .low)))
-        (passed-keeps s F w (W .low) (W .high) (requestedMode s w) (requestedObject s w) (F .requests w (is .0)) (is .1))
+    go : (w : ℕ) → Found (s .counts .jobs) (wakes s) w → P w (woken s w)
+    go w (inl z) = subst (λ v. P v (woken s v)) (sym (z .0)) (none (z .1))
+    go w (inr W) = subst (P w) (sym (woken-granted s w (W .low))) (one w W)
+
+pub woken-keeps : (s : State) → Facts s → Facts (woken s (wakeable s))
+woken-keeps s F =
+    by-search s (λ w t. Facts t) (λ none. F)
+    (λ w W. (let is = wakes-is s w (W .low) (W .itself) in
+    passed-keeps s F w (W .low) (W .high) (requestedMode s w) (requestedObject s w) (F .requests w (is .0)) (is .1)))
 
 -- ---- the rules of the kinds
 

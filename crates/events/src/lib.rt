@@ -11,7 +11,7 @@ mod packing;
 use changes::grant;
 use changes::mode_of_request;
 use changes::object_of_request;
-use changes::release_set;
+use changes::release;
 use changes::release_sets;
 use changes::store_request;
 pub use packing::pack;
@@ -173,7 +173,7 @@ fn wake<'a>(
     Answer::Done(rank)
 }
 
-// Kind 4: the job gives up its lock on the object, and is marked.
+// Kind 4: the job gives up its read lock on the object, and is marked.
 fn unlock<'a>(
     counts: Counts,
     may_read: Sets<'a>,
@@ -195,9 +195,7 @@ fn unlock<'a>(
     if number != 0 {
         return Answer::Refused(number);
     }
-    *unlocked = ranks::with(*unlocked, rank);
-    release_set(readers, rank, object);
-    release_set(writers, rank, object);
+    release(unlocked, readers, rank, object);
     wake(counts, may_read, may_write, readers, writers, request)
 }
 

@@ -11,7 +11,7 @@ use Rattle.ranks.specs.RankLaws.{member-with-same}
 use Rattle.state.specs.declared.State.{State}
 use Rattle.state.specs.State.{read, write, declared, holders, holds, isActive, hasUnlocked, requestedObject, objectOfRequest, grant}
 use Rattle.state.specs.Facts.{In, RequestFacts, Facts}
-use Rattle.state.specs.Changes.{overTable, Same, grant-others, grant-same}
+use Rattle.state.specs.Changes.{overTable, Same, SameLocks, grant-locks}
 use Rattle.state.specs.Keeping.{unheld, writable, read-granted, write-granted}
 use Rattle.weights.specs.Weights.{weight}
 use Rattle.weights.specs.WeightLaws.{read-own, write-writer, write-below-read, weight-small}
@@ -28,7 +28,7 @@ module _ (s t : State) where
   unfolding weight
   table-weight m r o = refl
 
-  pub weight-frame : (x o : ℕ) → ((m : ℕ) → holds t m x o ≡ holds s m x o) → lockWeight (overTable s t) x o ≡ lockWeight s x o
+  pub weight-frame : (x o : ℕ) → SameLocks s t x o → lockWeight (overTable s t) x o ≡ lockWeight s x o
   unfolding weight
   weight-frame x o h = ap₂ (λ a b. min (weightIf a (weight s read x o)) (weightIf b (weight s write x o))) (h read) (h write)
 
@@ -87,14 +87,8 @@ module _ (s : State) (F : Facts s) (r : ℕ) (low : 1 ≤ r) (high : r ≤ s .co
     pass = pass;
     cap = lighter .0;
     down = lighter .1;
-    same = λ x p. elim (ℕ-discrete r x) [
-      | yes e ↦ elim (ℕ-discrete o p) [ yes f ↦ inr (sym e, sym f) | no d ↦ inl (weight-frame s (grant s m r o) x p (other-object x p d)) ]
-      | no d ↦ inl (weight-frame s (grant s m r o) x p (λ n. other-job x d .locks n p))
+    same = λ x p. elim (grant-locks s F r m o A x p) [
+      | inl same ↦ inl (weight-frame s (grant s m r o) x p same)
+      | inr own ↦ inr (sym (own .0), sym (own .1))
     ];
   }
-    where
-      other-job : (x : ℕ) → r ≢ x → Same s (grant s m r o) x
-      other-job = grant-same s F r m o A
-
-      other-object : (x p : ℕ) → o ≢ p → (n : ℕ) → holds (grant s m r o) n x p ≡ holds s n x p
-      other-object x p d n = ap (λ v. member v x) (grant-others s F r m o A n p d)

@@ -4,6 +4,7 @@ pub mod Terms
 pub mod Weights
 pub mod View
 pub mod Frames
+pub mod LockModes
 pub mod Waking
 pub mod Requests
 pub mod Steps

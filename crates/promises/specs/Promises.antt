@@ -1,6 +1,6 @@
--- The promises about the manager as a whole: demand 3, well-formed states, granting and naming, no second wake-up, and the old rule on one processor.
--- Their terms are in Terms.antt and, for demand 3, in theory/specs/Words.antt; the files between Terms.antt and this one prove them.
--- The sentences in quotes are document 01's. Assumes nothing.
+-- The promises about the manager as a whole: demand 3, well-formed states, granting and naming, no second wake-up, the old rule on one processor,
+-- and write locks that stay. Their terms are in Terms.antt, for demand 3 in theory/specs/Words.antt and for write locks in theory/specs/WriteLocks.antt;
+-- the files between Terms.antt and this one prove them. The sentences in quotes are document 01's, or where it says so 02's. Assumes nothing.
 use mathlib.Core.Path.{_≡_, ap}
 use mathlib.Core.Logic.{_≢_, _↔_}
 use mathlib.Core.Bool.{true, false}
@@ -9,7 +9,7 @@ use Prim.Native.Nat.{ℕ, zero, suc}
 use lib.ListN.{getD}
 use Rattle.basics.specs.Choice.{between}
 use Rattle.state.specs.declared.State.{State}
-use Rattle.state.specs.State.{isWaiting}
+use Rattle.state.specs.State.{write, holds, isWaiting}
 use Rattle.state.specs.WellFormed.{wellFormed}
 use Rattle.state.specs.Facts.{Sized}
 use Rattle.state.specs.WellFormedFacts.{facts, facts-well-formed}
@@ -23,14 +23,17 @@ use Rattle.manager.specs.Keeping.{step-keeps, step-well-formed}
 use Rattle.basics.specs.Replies.{value}
 use Rattle.questions.specs.Answers.{rankReply}
 use Rattle.questions.specs.Questions.{askRunning}
-use Rattle.theory.specs.Words.{Demand3}
+use Rattle.theory.specs.Words.{Ends, Demand3}
+use Rattle.theory.specs.WriteLocks.{HoldsWrite, WriteLocksStay}
 use Rattle.theory.specs.Keeps.{none-passes}
-use Rattle.theory.specs.Lists.{stateAt, labelAt, demand3-of}
+use Rattle.theory.specs.WritesStay.{write-kept}
+use Rattle.theory.specs.Lists.{stateAt, labelAt, demand3-of, writes-stay-of, writes-shown-of}
 use Rattle.promises.specs.Terms.{Event, outcomeOf, next, label, named, Reached, fresh, after, oldRequest}
 use Rattle.promises.specs.TableStates.{read-sized}
 use Rattle.promises.specs.View.{view}
+use Rattle.promises.specs.LockModes.{modes, write-mode, mode-write}
 use Rattle.promises.specs.Steps.{step-goes, done-kind}
-use Rattle.promises.specs.ReachedStates.{kept, fresh-facts, fresh-view, manages}
+use Rattle.promises.specs.ReachedStates.{kept, fresh-facts, fresh-view, manages, moves-modes}
 use Rattle.promises.specs.Waking.{blocked-not-woken, nobody-left}
 use Rattle.promises.specs.Requests.{granted-exactly, waits-for}
 use Rattle.promises.specs.OldRule.{one-request}
@@ -92,7 +95,7 @@ pub no-second-request-passes : (s : State) → Sized s → wellFormed s ≡ true
 no-second-request-passes s z w e kind done =
     let F = facts s z w in
     blocked-not-woken (next s e) (step-keeps s F (e .kind) (e .rank) (e .object))
-    (none-passes (step-goes s F (e .kind) (e .rank) (e .object)) (done-kind (e .kind) (paper (outcomeOf s e .answer)) kind done))
+    (none-passes (step-goes s F (e .kind) (e .rank) (e .object) .step) (done-kind (e .kind) (paper (outcomeOf s e .answer)) kind done))
 
 pub no-second-one : (s : State) → Sized s → wellFormed s ≡ true
     → (e : Event) → between 4 6 (e .kind) ≡ true → paper (outcomeOf s e .answer) .number ≡ 3 → wakeable (next s e) ≡ 0
@@ -113,3 +116,24 @@ pub one-processor : {t : State} → Reached t → t .counts .processors ≡ 1
     → paper (outcomeOf t e .answer) ≡ paper (oldRequest t (modeOf (e .kind)) (e .rank) (e .object) .answer)
 one-processor {t} r one e kind run ok =
     ap (λ x. paper (x .answer)) (one-request t (kept r) one (e .kind) (e .rank) (e .object) kind run ok)
+
+-- ---- WRITE LOCKS STAY UNTIL THE END
+-- 02, CR 1: "The trade's habit is to release writes when a run ends .. Unlock is for read locks from now on."
+-- Over any list of events from a fresh state, in words that are read off the events and their answers: a run that has been granted
+-- a write lock on an object holds it, as a write lock, at every later moment until the run's end.
+pub write-locks-stay : (s : State) → Sized s → Fresh s → (es : List Event) → WriteLocksStay (labelAt next label s es)
+write-locks-stay s z f es = writes-stay-of next label view manages modes moves-modes s (fresh-facts z f) (fresh-view z f) es
+
+-- And a write lock that is held in these words is held in the state.
+pub write-locks-shown : (s : State) → Sized s → Fresh s → (es : List Event) (j k o t : ℕ)
+    → HoldsWrite (labelAt next label s es) j k o t → holds (stateAt next label s es t) write j o ≡ true
+write-locks-shown s z f es j k o t h =
+    mode-write (stateAt next label s es t) j o
+    (writes-shown-of next label view manages modes moves-modes s (fresh-facts z f) (fresh-view z f) es j k o t h)
+
+-- One event, in any well-formed state, handed in or reached: each write lock of a job is among those after it, unless the event ends the job's run.
+pub write-locks-kept : (s : State) → Sized s → wellFormed s ≡ true → (e : Event) (j o : ℕ)
+    → ¬ Ends (label s e) j → holds s write j o ≡ true → holds (next s e) write j o ≡ true
+write-locks-kept s z w e j o goes-on held =
+    mode-write (next s e) j o
+    (write-kept (step-goes s (facts s z w) (e .kind) (e .rank) (e .object) .moves) j o (write-mode s j o held) goes-on)

@@ -13,10 +13,11 @@ use Rattle.weights.specs.Keys.{noWeight}
 use Rattle.manager.specs.Keeping.{step-keeps}
 use Rattle.theory.specs.Machine.{FreshView, Invariant, fresh-invariant}
 use Rattle.theory.specs.Keeps.{step-invariant}
-use Rattle.theory.specs.Lists.{Manages}
+use Rattle.theory.specs.Lists.{Manages, MovesModes}
 use Rattle.promises.specs.Terms.{next, label, Reached, fresh, after}
 use Rattle.promises.specs.View.{asNumber, view, seen}
 use Rattle.promises.specs.Frames.{no-weight}
+use Rattle.promises.specs.LockModes.{modes}
 use Rattle.promises.specs.Steps.{step-goes}
 
 -- ---- a fresh state
@@ -52,13 +53,16 @@ kept (after {s} r e) =
     let k = kept r in
     record {
       facts = step-keeps s (k .facts) (e .kind) (e .rank) (e .object);
-      invariant = step-invariant (step-goes s (k .facts) (e .kind) (e .rank) (e .object)) (k .invariant);
+      invariant = step-invariant (step-goes s (k .facts) (e .kind) (e .rank) (e .object) .step) (k .invariant);
     }
 
 -- what the theory asks of the manager
 pub manages : Manages next label view noWeight (mostObjects + 1) Facts
 manages = record {
   keeps = λ s e F. step-keeps s F (e .kind) (e .rank) (e .object);
-  steps = λ s e F. step-goes s F (e .kind) (e .rank) (e .object);
+  steps = λ s e F. step-goes s F (e .kind) (e .rank) (e .object) .step;
   seen = seen;
 }
+
+pub moves-modes : MovesModes next label view manages modes
+moves-modes s e F = step-goes s F (e .kind) (e .rank) (e .object) .moves

@@ -14,16 +14,18 @@ use Rattle.state.specs.declared.State.{State}
 use Rattle.state.specs.State.{requestOf, isWaiting, requestedMode, requestedObject, objectOfRequest, grant}
 use Rattle.state.specs.Facts.{RequestFacts, Facts}
 use Rattle.state.specs.WellFormedFacts.{waiting-rank}
-use Rattle.state.specs.Changes.{grant-request, grant-same}
+use Rattle.state.specs.Changes.{grant-request, grant-same, grant-locks}
 use Rattle.rule.specs.Granting.{passes, wakes, wakeable}
-use Rattle.rule.specs.WakeLaws.{FoundAt, Found, wakeable-found, wakes-is}
+use Rattle.rule.specs.WakeLaws.{FoundAt, wakes-is}
 use Rattle.events.specs.Events.{woken}
-use Rattle.events.specs.Keeping.{woken-granted}
+use Rattle.events.specs.Keeping.{by-search}
 use Rattle.theory.specs.Machine.{Passes, Blocked}
 use Rattle.theory.specs.Build.{Woke}
+use Rattle.theory.specs.Modes.{WokeModes}
 use Rattle.promises.specs.Weights.{lockWeight, passes-all, fails-blocked, blocked-fails}
 use Rattle.promises.specs.View.{view, requested-waits, waits-requested, waiting-below}
 use Rattle.promises.specs.Frames.{requested-frame, took-grant}
+use Rattle.promises.specs.LockModes.{modes, mode-frame, asked-frame, given-grant}
 
 -- ---- one waiting job
 
@@ -51,6 +53,9 @@ module _ (s : State) where
       active-same = λ x. refl;
       unlocked-same = λ x. refl;
     }
+
+    none-woke-modes : WokeModes (view s) (modes s) 0 (modes s)
+    none-woke-modes = record { gave = λ a. absurd (omega arith); held-same = λ r p. inl refl; asked-same = λ x. inl refl }
 
     -- w is woken
     module _ (w : ℕ) (W : FoundAt (s .counts .jobs) (wakes s) w) where
@@ -83,14 +88,26 @@ module _ (s : State) where
         unlocked-same = λ x. refl;
       }
 
+      one-woke-modes : WokeModes (view s) (modes s) w (modes (grant s (requestedMode s w) w (requestedObject s w)))
+      one-woke-modes = record {
+        gave = λ a. given-grant s F w (W .low) (W .high) (requestedMode s w) (requestedObject s w) request;
+        held-same = λ x p. elim (grant-locks s F w (requestedMode s w) (requestedObject s w) request x p) [
+          | inl same ↦ inl (mode-frame s (grant s (requestedMode s w) w (requestedObject s w)) x p same)
+          | inr own ↦ inr (omega (arith, W .low, own .0), own .0, rw (own .0) at (own .1))
+        ];
+        asked-same = λ x. elim (ℕ-discrete w x) [
+          | yes e ↦ inr (omega (arith, W .low), e)
+          | no d ↦ inl (asked-frame s (grant s (requestedMode s w) w (requestedObject s w)) x
+              (grant-same s F w (requestedMode s w) (requestedObject s w) request x d))
+        ];
+      }
+
     -- the search wakes as the theory asks
     pub woken-wakes : Woke (view s) (wakeable s) (view (woken s (wakeable s)))
-    unfolding woken
-    woken-wakes = go (wakeable s) (wakeable-found s)
-      where
-        go : (w : ℕ) → Found (s .counts .jobs) (wakes s) w → Woke (view s) w (view (woken s w))
-        go w (inl z) = subst (λ v. Woke (view s) v (view (woken s v))) (sym (z .0)) (none-woke (z .1))
-        go w (inr W) = subst (λ t. Woke (view s) w (view t)) (sym (woken-granted s w (W .low))) (one-woke w W)
+    woken-wakes = by-search s (λ w t. Woke (view s) w (view t)) none-woke one-woke
+
+    pub woken-modes : WokeModes (view s) (modes s) (wakeable s) (modes (woken s (wakeable s)))
+    woken-modes = by-search s (λ w t. WokeModes (view s) (modes s) w (modes t)) (λ none. none-woke-modes) one-woke-modes
 
 -- ---- where every waiting job is blocked
 

@@ -1,4 +1,4 @@
--- What is known of an event that is not refused: none of the refusals 9 to 17 holds.
+-- What is known of an event that is not refused: none of the refusals 9 to 18 and 21 holds.
 -- Assumes nothing.
 use mathlib.Core.Path.{_≡_}
 use native.Mathlib.Omega.{arith}
@@ -8,7 +8,7 @@ use lib.Dec.{eqb}
 use borrow.Author.Tests.{eqb-true, not-false}
 use Rattle.basics.specs.Choice.{between, between-true, if-zero}
 use Rattle.state.specs.declared.State.{State}
-use Rattle.state.specs.State.{read, write, isRank, isObject, mayLock, holdsAlready, isActive, hasUnlocked, requestOf, isWaiting}
+use Rattle.state.specs.State.{read, write, isRank, isObject, mayLock, holds, holdsAlready, holdsAny, isActive, hasUnlocked, requestOf, isWaiting}
 use Rattle.state.specs.WellFormed.{wellFormed}
 use Rattle.state.specs.Facts.{RequestFacts}
 use Rattle.refusals.specs.Refusals.{isRequest, modeOf, objectAllowed, eventRefusal, refusal}
@@ -23,6 +23,8 @@ pub record AcceptedEvent (s : State) (k r o : ℕ) : Type 0 where
   pub not-15 : isRequest k && hasUnlocked s r ≡ false
   pub not-16 : isRequest k && not (mayLock s (modeOf k) r o) ≡ false
   pub not-17 : isRequest k && holdsAlready s (modeOf k) r o ≡ false
+  pub not-18 : eqb k 4 && not (holdsAny s r o) ≡ false
+  pub not-21 : eqb k 4 && holds s write r o ≡ false
 
 -- in a state that is taken to be well formed
 pub event-not-refused : (s : State) (k r o : ℕ) → eventRefusal s k r o ≡ 0 → AcceptedEvent s k r o
@@ -37,6 +39,8 @@ event-not-refused s k r o e =
     let e15 = if-zero 14 (isRequest k && hasUnlocked s r) _ (e14 .1) in
     let e16 = if-zero 15 (isRequest k && not (mayLock s (modeOf k) r o)) _ (e15 .1) in
     let e17 = if-zero 16 (isRequest k && holdsAlready s (modeOf k) r o) _ (e16 .1) in
+    let e18 = if-zero 17 (eqb k 4 && not (holdsAny s r o)) _ (e17 .1) in
+    let e21 = if-zero 20 (eqb k 4 && holds s write r o) _ (e18 .1) in
     record {
       kind = not-false (between 1 6 k) (e9 .0);
       rank = between-true 1 (s .counts .jobs) r (not-false (isRank s r) (e10 .0));
@@ -47,6 +51,8 @@ event-not-refused s k r o e =
       not-15 = e15 .0;
       not-16 = e16 .0;
       not-17 = e17 .0;
+      not-18 = e18 .0;
+      not-21 = e21 .0;
     }
 
 -- in any state

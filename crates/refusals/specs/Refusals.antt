@@ -1,4 +1,4 @@
--- The refusals 8 to 19 of events and questions (01, "Refusals by who can cause them"): "Order: 8, then as numbered."
+-- The refusals 8 to 19 and 21 of events and questions (01, "Refusals by who can cause them"): "Order: 8, then as numbered."
 -- Assumes nothing.
 use Prim.Native.Nat.{ℕ, _-_}
 use mathlib.Core.Bool.{Bool, not, _&&_, _||_}
@@ -6,7 +6,7 @@ use lib.Dec.{eqb, ltb}
 use Rattle.basics.specs.Choice.{if_then_else_, _if_else_, between}
 use Rattle.state.specs.declared.State.{State}
 use Rattle.ranks.specs.Ranks.{member}
-use Rattle.state.specs.State.{isRank, isObject, mayLock, holdsAlready, holdsAny, isActive, isWaiting, hasUnlocked}
+use Rattle.state.specs.State.{write, isRank, isObject, mayLock, holds, holdsAlready, holdsAny, isActive, isWaiting, hasUnlocked}
 use Rattle.state.specs.WellFormed.{wellFormed}
 
 -- kinds 2 read-lock and 3 write-lock ask for a lock
@@ -24,6 +24,7 @@ objectAllowed s k o = if isRequest k || eqb k 4 then isObject s o else eqb o 0
 -- "9 kind not 1 to 6; 10 rank not 1 to the job count; 11 object out of range, or not 0 for kinds 1, 5, 6.
 -- 12 start of an active job; 13 another kind, or a question, for an idle job; 14 kinds 2 to 5 for a waiting job.
 -- 15 lock after an unlock; 16 lock whose right is not declared; 17 that lock or the write lock already held; 18 unlock of a lock not held."
+-- 02, CR 1: "Refused: 21, unlock of a write lock, after 18."
 -- Of an event in a well-formed state, 0 if it is accepted.
 unfoldable pub eventRefusal : State → ℕ → ℕ → ℕ → ℕ
 eventRefusal s k r o =
@@ -37,6 +38,7 @@ eventRefusal s k r o =
     16 if isRequest k && not (mayLock s (modeOf k) r o) else
     17 if isRequest k && holdsAlready s (modeOf k) r o else
     18 if eqb k 4 && not (holdsAny s r o) else
+    21 if eqb k 4 && holds s write r o else
     0
 
 -- the number of an event's refusal, 0 if it is accepted

@@ -127,7 +127,7 @@ pub fn lock_refusal<'a>(
     )
 }
 
-// 10, 11, 13, 14 and 18, of an unlock.
+// 10, 11, 13, 14, 18 and 21, of an unlock.
 pub fn unlock_refusal<'a>(
     counts: Counts,
     active: RankSet,
@@ -149,10 +149,11 @@ pub fn unlock_refusal<'a>(
     }
     let read = ranks::contains(set_of(readers, object), rank);
     let written = ranks::contains(set_of(writers, object), rank);
+    let to_write = refused_if(21, written, 0);
     job_event_refusal(
         ranks::contains(active, rank),
         is_waiting(request, rank),
-        refused_if(18, !(read | written), 0),
+        refused_if(18, !(read | written), to_write),
     )
 }
 

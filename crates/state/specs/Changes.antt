@@ -1,8 +1,8 @@
 -- What each change of a state does: `Same s t x` says that t says of job x what s says, and every change leaves each job but its own so.
 -- Then what a change does to the holders of each object, and to the request of its own job.
 -- Assumes nothing.
-use mathlib.Core.Path.{_≡_, refl, subst, ap, _∙_}
-use mathlib.Core.Logic.{_≢_}
+use mathlib.Core.Path.{_≡_, refl, sym, subst, ap, _∙_}
+use mathlib.Core.Logic.{_≢_, _⊎_, inl, inr}
 use mathlib.Core.Bool.{Bool, true, false}
 use Prim.Native.Nat.{ℕ, zero, suc, _^_, _≤_, _<_}
 use native.Mathlib.Omega.{arith}
@@ -29,6 +29,18 @@ pub record Same (s t : State) (x : ℕ) : Type 0 where
   pub unlocked : hasUnlocked t x ≡ hasUnlocked s x
   pub request : requestOf t x ≡ requestOf s x
   pub locks : (m o : ℕ) → holds t m x o ≡ holds s m x o
+
+-- t says of job x's locks on object p what s says
+abbrev pub SameLocks : State → State → ℕ → ℕ → Type 0
+SameLocks s t x p = (m : ℕ) → holds t m x p ≡ holds s m x p
+
+-- where the other jobs' locks stay, and those on other objects, each lock stays but r's on o
+pub other-locks : (s t : State) (r o : ℕ) → ((x : ℕ) → r ≢ x → Same s t x) → ((m p : ℕ) → o ≢ p → holders t m p ≡ holders s m p)
+    → (x p : ℕ) → SameLocks s t x p ⊎ ((r ≡ x) × (o ≡ p))
+other-locks s t r o jobs objects x p = elim (ℕ-discrete r x) [
+  | yes e ↦ elim (ℕ-discrete o p) [ yes q ↦ inr (e, q) | no d ↦ inl (λ m. ap (λ v. member v x) (objects m p d)) ]
+  | no d ↦ inl (λ m. jobs x d .locks m p)
+]
 
 -- ---- the holders of an object after a grant to r in mode m
 
@@ -84,24 +96,35 @@ module _ (s : State) (r : ℕ) where
     locks = λ n p. refl;
   }
 
--- ---- the release of one lock
+-- ---- the release of one read lock
 
 module _ (s : State) (r : ℕ) (Z : Sized s) (o : ℕ) (low : 1 ≤ o) (high : o ≤ mostObjects) where
-  pub release-holders : (m : ℕ) → holders (release s r o) m o ≡ without (holders s m o) r
+  pub release-readers : holders (release s r o) read o ≡ without (holders s read o) r
   unfolding release
-  release-holders =
-      either-mode (λ f. f (at (release s r o .readers) o) (at (release s r o .writers) o) ≡ without (f (at (s .readers) o) (at (s .writers) o)) r)
-      (at-put-same (s .readers) o (without (at (s .readers) o) r) low (omega (arith, Z .readers)))
-      (at-put-same (s .writers) o (without (at (s .writers) o) r) low (omega (arith, Z .writers)))
+  release-readers = at-put-same (s .readers) o (without (at (s .readers) o) r) low (omega (arith, Z .readers))
+
+  -- the writers of every object stay
+  pub release-writers : (p : ℕ) → holders (release s r o) write p ≡ holders s write p
+  unfolding release
+  release-writers p = refl
 
   pub release-others : (m p : ℕ) → o ≢ p → holders (release s r o) m p ≡ holders s m p
   unfolding release
   release-others m p d =
       either-mode (λ f. f (at (release s r o .readers) p) (at (release s r o .writers) p) ≡ f (at (s .readers) p) (at (s .writers) p))
-      (at-put-other (s .readers) o (without (at (s .readers) o) r) p d) (at-put-other (s .writers) o (without (at (s .writers) o) r) p d) m
+      (at-put-other (s .readers) o (without (at (s .readers) o) r) p d) refl m
 
-  pub release-none : (m : ℕ) → holds (release s r o) m r o ≡ false
-  release-none m = ap (λ v. member v r) (release-holders m) ∙ member-without-same (holders s m o) r
+  -- what holds of the readers without r and of the writers of o holds of its holders in either mode
+  pub release-either : (P : ℕ → ℕ → Type 0) → P (without (holders s read o) r) (holders s read o) → P (holders s write o) (holders s write o)
+      → (m : ℕ) → P (holders (release s r o) m o) (holders s m o)
+  unfolding release
+  release-either P reading writing =
+      either-mode (λ f. P (f (at (release s r o .readers) o) (at (release s r o .writers) o)) (f (at (s .readers) o) (at (s .writers) o)))
+      (subst (λ v. P v (holders s read o)) (sym release-readers) reading) writing
+
+  -- r, which has no write lock there, holds nothing there
+  pub release-none : holds s write r o ≡ false → (m : ℕ) → holds (release s r o) m r o ≡ false
+  release-none unwritten = release-either (λ v before. member v r ≡ false) (member-without-same (holders s read o) r) unwritten
 
   pub release-same : (x : ℕ) → r ≢ x → Same s (release s r o) x
   unfolding release
@@ -111,10 +134,14 @@ module _ (s : State) (r : ℕ) (Z : Sized s) (o : ℕ) (low : 1 ≤ o) (high : o
     request = refl;
     locks = λ m p. elim (ℕ-discrete o p) [
       | yes e ↦ subst (λ q. holds (release s r o) m x q ≡ holds s m x q) e
-          (ap (λ v. member v x) (release-holders m) ∙ member-without-other (holders s m o) r x d)
+          (release-either (λ v before. member v x ≡ member before x) (member-without-other (holders s read o) r x d) refl m)
       | no n ↦ ap (λ v. member v x) (release-others m p n)
     ];
   }
+
+  -- each lock stays but that of r on o
+  pub release-locks : (x p : ℕ) → SameLocks s (release s r o) x p ⊎ ((r ≡ x) × (o ≡ p))
+  release-locks = other-locks s (release s r o) r o release-same release-others
 
 -- ---- the end of a run
 
@@ -142,6 +169,10 @@ module _ (s : State) (F : Facts s) (r : ℕ) where
 
   pub end-none : (m o : ℕ) → holds (endRun s r) m r o ≡ false
   end-none m o = ap (λ v. member v r) (end-holders m o) ∙ member-without-same (holders s m o) r
+
+  -- each lock stays but those of r
+  pub end-locks : (x p : ℕ) → SameLocks s (endRun s r) x p ⊎ (r ≡ x)
+  end-locks x p = elim (ℕ-discrete r x) [ yes e ↦ inr e | no d ↦ inl (λ m. end-same x d .locks m p) ]
 
   pub end-request : 1 ≤ r → r ≤ s .counts .jobs → requestOf (endRun s r) r ≡ 0
   unfolding endRun
@@ -208,3 +239,7 @@ module _ (s : State) (F : Facts s) (r m o : ℕ) (A : RequestFacts s m r o) wher
           ≡ member (f (holders s read o) (holders s write o)) x)
           (ap (λ v. member v x) grant-readers ∙ readers-after-other m r (holders s read o) x d)
           (ap (λ v. member v x) grant-writers ∙ writers-after-other m r (holders s write o) x d)
+
+  -- each lock stays but that of r on o
+  pub grant-locks : (x p : ℕ) → SameLocks s (grant s m r o) x p ⊎ ((r ≡ x) × (o ≡ p))
+  grant-locks = other-locks s (grant s m r o) r o grant-same grant-others

@@ -21,7 +21,7 @@ use Rattle.state.specs.Facts.{Sized, In, Alone, LockFacts, RequestFacts,
 use Rattle.state.specs.Modes.{either-mode}
 use Rattle.state.specs.Changes.{overTable, Same, readersAfter, writersAfter, readers-after-lt, writers-after-lt, activate-same}
 use Rattle.state.specs.Changes.{await-same, await-request, grant-request, end-request, end-holders, end-same}
-use Rattle.state.specs.Changes.{release-holders, release-others, release-same, grant-readers, grant-writers, grant-others, grant-same}
+use Rattle.state.specs.Changes.{release-either, release-others, release-same, grant-readers, grant-writers, grant-others, grant-same}
 
 -- ---- members of a set that one rank was put into or taken out of
 
@@ -143,26 +143,26 @@ module _ (s : State) (F : Facts s) (r : ℕ) (low : 1 ≤ r) (high : r ≤ s .co
             new = A .new;
           })))
 
-  -- a set of holders of p in mode m that is a part of what it was
-  abbrev Part : ℕ → ℕ → ℕ → Type 0
-  Part p m v = (v < 2 ^ s .counts .jobs) × ((x : ℕ) → In v x → In (holders s m p) x)
+  -- a set of holders that is a part of what it was
+  abbrev Part : ℕ → ℕ → Type 0
+  Part v before = (v < 2 ^ s .counts .jobs) × ((x : ℕ) → In v x → In before x)
 
   pub release-keeps : (o : ℕ) → 1 ≤ o → o ≤ mostObjects → isActive s r ≡ true → requestOf s r ≡ 0 → Facts (release s r o)
   unfolding release
   release-keeps o a b active free =
-      keep s (release s r o) F r (length-put (s .readers) o (without (holders s read o) r) ∙ F .sized .readers)
-      (length-put (s .writers) o (without (holders s write o) r) ∙ F .sized .writers) (F .sized .request)
+      keep s (release s r o) F r (length-put (s .readers) o (without (holders s read o) r) ∙ F .sized .readers) (F .sized .writers) (F .sized .request)
       (λ p. fewer-locks s (release s r o) p (λ m. part p m .0) (λ m x i. (part p m .1 x i, λ j. j)) (F .locks p))
       (F .active-jobs) (with-lt (s .counts .jobs) (s .unlocked) r (F .marks-jobs) high)
       (λ x i. elim (with-in (s .unlocked) r x i) [ inl e ↦ subst (λ y. In (s .active) y) e active | inr j ↦ F .marks x j ])
       (λ d. absurd (d free)) (release-same s r Z o a b)
     where
-      part : (p m : ℕ) → Part p m (holders (release s r o) m p)
+      part : (p m : ℕ) → Part (holders (release s r o) m p) (holders s m p)
       part p m = elim (ℕ-discrete o p) [
-        | yes e ↦ subst (λ q. Part q m (holders (release s r o) m q)) e
-            (subst (Part o m) (sym (release-holders s r Z o a b m))
-            (without-lt (s .counts .jobs) (holders s m o) r (F .locks o .jobs m), λ x i. without-in (holders s m o) r x i .0))
-        | no d ↦ subst (Part p m) (sym (release-others s r Z o a b m p d)) (F .locks p .jobs m, λ x i. i)
+        | yes e ↦ subst (λ q. Part (holders (release s r o) m q) (holders s m q)) e
+            (release-either s r Z o a b Part
+            (without-lt (s .counts .jobs) (holders s read o) r (F .locks o .jobs read), λ x i. without-in (holders s read o) r x i .0)
+            (F .locks o .jobs write, λ x i. i) m)
+        | no d ↦ subst (λ v. Part v (holders s m p)) (sym (release-others s r Z o a b m p d)) (F .locks p .jobs m, λ x i. i)
       ]
 
   pub end-keeps : Facts (endRun s r)

@@ -159,13 +159,13 @@ grantWriters m r o sets = if eqb m read then sets else put sets o (with (at sets
 unfoldable pub grant : State → ℕ → ℕ → ℕ → State
 grant s m r o = withLocks s (s .active) (s .unlocked) (grantReaders m r o (s .readers)) (grantWriters m r o (s .writers)) (put (s .request) r 0)
 
--- r taken out of the set of o
-abbrev pub releaseSet : ℕ → ℕ → List ℕ → List ℕ
-releaseSet r o sets = put sets o (without (at sets o) r)
+-- what r's unlock of o makes of the sets of readers
+abbrev pub releaseReaders : ℕ → ℕ → List ℕ → List ℕ
+releaseReaders r o sets = put sets o (without (at sets o) r)
 
--- r gives up its lock on o, and is marked
+-- r gives up its read lock on o, and is marked; the writers are neither looked at nor changed
 unfoldable pub release : State → ℕ → ℕ → State
-release s r o = withLocks s (s .active) (with (s .unlocked) r) (releaseSet r o (s .readers)) (releaseSet r o (s .writers)) (s .request)
+release s r o = withLocks s (s .active) (with (s .unlocked) r) (releaseReaders r o (s .readers)) (s .writers) (s .request)
 
 -- r taken out of every set
 abbrev pub releaseSets : ℕ → List ℕ → List ℕ

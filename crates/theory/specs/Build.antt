@@ -10,6 +10,11 @@ use Rattle.theory.specs.Machine.{View, Blocked, Took, MayRequest, Releas
 abbrev pub labelled : (what job object mode woken : ℕ) → Label
 labelled what job object mode woken = record { what = what; job = job; object = object; mode = mode; woken = woken }
 
+-- what: 5 finish, 6 abandonment
+pub ends-run : {what j o w x : ℕ} → 5 ≤ what → what ≤ 6 → j ≡ x → Ends (labelled what j o 0 w) x
+ends-run {what} five six e =
+    record { finish-or-abandonment-done = elim (decLe what 5) [ yes l ↦ inl (omega arith) | no l ↦ inr (omega arith) ]; of-job = e }
+
 -- the search for a waiting job: m is the state once the locks are released, w the woken rank or 0
 pub record Woke (m : View) (w : ℕ) (s' : View) : Type 0 where
   pub waited : 0 < w → m .requested w ≢ 0
@@ -142,16 +147,10 @@ module _ {N : ℕ} {s s' : View} where
         → ((x : ℕ) → (m .unlocked x ≡ s .unlocked x) ⊎ (j ≡ x)) → Step N s (labelled what j o 0 w) s'
     end-step what five six free gone weight none requested idle active unlocked =
         release-step what (omega arith) none free (λ a. absurd (omega arith)) (λ a. (idle, gone))
-        (λ r p. elim (weight r p) [ inl e ↦ inl e | inr e ↦ inr (inr (ends r e)) ])
-        (λ x. elim (requested x) [ inl e ↦ inl e | inr e ↦ inr (ends x e) ])
-        (λ x. elim (active x) [ inl e ↦ inl e | inr e ↦ inr (ends x e) ])
-        (λ x. elim (unlocked x) [ inl e ↦ inl e | inr e ↦ inr (inr (ends x e)) ])
-      where
-        five-or-six : (what ≡ 5) ⊎ (what ≡ 6)
-        five-or-six = elim (decLe what 5) [ yes l ↦ inl (omega arith) | no l ↦ inr (omega arith) ]
-
-        ends : (x : ℕ) → j ≡ x → Ends (labelled what j o 0 w) x
-        ends x e = record { finish-or-abandonment-done = five-or-six; of-job = e }
+        (λ r p. elim (weight r p) [ inl e ↦ inl e | inr e ↦ inr (inr (ends-run five six e)) ])
+        (λ x. elim (requested x) [ inl e ↦ inl e | inr e ↦ inr (ends-run five six e) ])
+        (λ x. elim (active x) [ inl e ↦ inl e | inr e ↦ inr (ends-run five six e) ])
+        (λ x. elim (unlocked x) [ inl e ↦ inl e | inr e ↦ inr (inr (ends-run five six e)) ])
 
 -- a refused event
 pub refused-step : {N : ℕ} (s : View) (j o : ℕ) → Step N s (labelled 0 j o 0 0) s

@@ -1,9 +1,13 @@
--- The files in the order in which they build on one another; Words alone states demand 3, Lists has the theorem.
+-- The files in the order in which they build on one another. Words alone states demand 3, and WriteLocks, in its words, change request 1;
+-- Lists has the theorems.
 pub mod Words
+pub mod WriteLocks
 pub mod Machine
 pub mod Keeps
 pub mod Links
 pub mod Demand
 pub mod Build
+pub mod Modes
+pub mod WritesStay
 pub mod Lists
 pub mod Key

@@ -1,11 +1,17 @@
--- Demand 3 of a manager, for any list of events from a fresh state:
--- shown from what the manager shows of one state and one event (Manages).
+-- Demand 3 and change request 1 of a manager, for any list of events from a fresh state:
+-- shown from what the manager shows of one state and one event (Manages; for change request 1 also MovesModes).
+use mathlib.Core.Path.{refl}
 use mathlib.Core.List.{List, [], _∷_}
-use Prim.Native.Nat.{ℕ, zero, suc}
+use Prim.Native.Nat.{ℕ, zero, suc, _≤_}
+use native.Mathlib.Omega.{arith}
 use Rattle.theory.specs.Words.{Label, Demand3}
+use Rattle.theory.specs.WriteLocks.{HoldsWrite, WriteLocksStay}
 use Rattle.theory.specs.Machine.{View, Step, Seen, FreshView}
+use Rattle.theory.specs.Links.{Trace}
 use Rattle.theory.specs.Demand.{trace-demand3}
 use Rattle.theory.specs.Build.{labelled, refused-step}
+use Rattle.theory.specs.Modes.{Modes, ModeStep, nothing-modes}
+use Rattle.theory.specs.WritesStay.{written, trace-writes-stay}
 
 -- "An event in it is any three bytes, of any kind or none,
 -- and gets the state that the event before it returned, refused or not."
@@ -44,9 +50,35 @@ module _ {State Event : Type 0} (next : State → Event → State) (label : Stat
       step-at s g (e ∷ es) zero = G .steps s e g
       step-at s g (e ∷ es) (suc t) = step-at (next s e) (G .keeps s e g) es t
 
+      trace-of : (s : State) → Good s → FreshView N (view s) → (es : List Event)
+          → Trace N (λ t. view (stateAt s es t)) (labelAt s es)
+      trace-of s g F es = record { fresh = F; step = step-at s g es }
+
       -- DEMAND 3 of any list of events from a fresh state
       pub demand3-of : (s : State) → Good s → FreshView N (view s) → (es : List Event)
           → Demand3 (labelAt s es) (λ t. view (stateAt s es t) .names)
-      demand3-of s g F es =
-          trace-demand3 {view = λ t. view (stateAt s es t)} {label = labelAt s es}
-          (record { fresh = F; step = step-at s g es }) (λ t. G .seen (stateAt s es t) (good-at s g es t))
+      demand3-of s g F es = trace-demand3 (trace-of s g F es) (λ t. G .seen (stateAt s es t) (good-at s g es t))
+
+      module _ (modes : State → Modes) where
+        -- what a manager shows beyond it: from a good state each event is a ModeStep
+        abbrev pub MovesModes : Type 0
+        MovesModes = (s : State) (e : Event) → Good s → ModeStep (view s) (modes s) (label s e) (modes (next s e))
+
+        module _ (moves : MovesModes) where
+          mode-step-at : (s : State) → Good s → (es : List Event) (t : ℕ)
+              → ModeStep (view (stateAt s es t)) (modes (stateAt s es t)) (labelAt s es t) (modes (stateAt s es (suc t)))
+          mode-step-at s g [] zero = nothing-modes 0 0 0 (omega arith) (λ x. refl) (λ r p. refl)
+          mode-step-at s g [] (suc t) = nothing-modes 0 0 0 (omega arith) (λ x. refl) (λ r p. refl)
+          mode-step-at s g (e ∷ es) zero = moves s e g
+          mode-step-at s g (e ∷ es) (suc t) = mode-step-at (next s e) (G .keeps s e g) es t
+
+          -- CHANGE REQUEST 1 of any list of events from a fresh state; and what it says is held is in the state
+          pub writes-stay-of : (s : State) → Good s → FreshView N (view s) → (es : List Event) → WriteLocksStay (labelAt s es)
+          writes-stay-of s g F es =
+              trace-writes-stay {modes = λ t. modes (stateAt s es t)} (trace-of s g F es) (mode-step-at s g es)
+
+          pub writes-shown-of : (s : State) → Good s → FreshView N (view s) → (es : List Event)
+              → (j k o t : ℕ) → HoldsWrite (labelAt s es) j k o t → 2 ≤ modes (stateAt s es t) .held j o
+          writes-shown-of s g F es j k o t h =
+              written {modes = λ t. modes (stateAt s es t)} (trace-of s g F es) (mode-step-at s g es)
+              j k o (h .last) t (h .grant) (h .before) (h .holds .run)

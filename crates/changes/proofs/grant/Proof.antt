@@ -3,22 +3,17 @@
 use mathlib.Core.Path.{_≡_, sym, ap, _∙_}
 use mathlib.Core.Bool.{Bool, true, false}
 use mathlib.Core.List.{List}
-use Prim.Native.Nat.{ℕ, _-_, _≤_}
+use Prim.Native.Nat.{ℕ}
 use lib.Dec.{eqb}
-use lib.ListN.{getD, set}
 use borrow.Author.Tests.{eq-eqb, ne-eqb}
 use Rattle.basics.specs.Choice.{if_then_else_}
-use Rattle.basics.specs.Arrays.{at, put, at-index, put-index}
+use Rattle.basics.specs.Arrays.{at, put, put-index}
 use Rattle.ranks.specs.Ranks.{with, without}
 use Rattle.state.specs.State.{grantReaders, grantWriters}
 use borrow.Author.Needs.{needs}
+use Rattle.changes.proofs.Elements.{changed}
 use Rattle.changes.proofs.grant.Statement.{statement}
 use Rattle.changes.proofs.grant.Tie as tie
-
--- an element changed at its index
-changed : (f : ℕ → ℕ) (xs : List ℕ) (o v : ℕ) → 1 ≤ o → v ≡ f (getD xs (o - 1) 0) → set xs (o - 1) v ≡ put xs o (f (at xs o))
-changed f xs o v h e =
-    ap (λ (w : ℕ). set xs (o - 1) w) (e ∙ ap f (sym (at-index xs o h))) ∙ sym (put-index xs o (f (at xs o)) h)
 
 -- what the test of the mode makes of both sets
 readers-by : (m r o : ℕ) (xs : List ℕ) (b : Bool) → eqb m 1 ≡ b → put xs o (if b then with (at xs o) r else without (at xs o) r) ≡ grantReaders m r o xs

@@ -44,27 +44,21 @@ returns c =
     let a = c .before .before .before .before .before .args in
     λ ps. L.perform-refused (whole ((c .before .before .before .before .before)) ps) 4 (a .rank) (a .object) (c .before .unlock-refusal .result) (c .before .unlock-refusal .ensures (now (a .unlocked)) ps (now (a .may-read)) (now (a .may-write))) (c .if1 .taken)
 
-with-requires : tie.Need-with-requires
-with-requires c κs = let n = numbers ((c .before .before .before .before .before .before)) (accepted ((c .before .before .before .before .before .before)) (c .before .before .unlock-refusal .result) (c .before .before .unlock-refusal .ensures) (c .before .if1 .left) []) in (n .0, n .1)
-
-release-set-requires : tie.Need-release-set-requires
-release-set-requires c κs = numbers ((c .before .before .before .before .before .before .before .before)) (accepted ((c .before .before .before .before .before .before .before .before)) (c .before .before .before .before .unlock-refusal .result) (c .before .before .before .before .unlock-refusal .ensures) (c .before .before .before .if1 .left) [])
-
-release-set-requires-2 : tie.Need-release-set-requires-2
-release-set-requires-2 c κs = numbers ((c .before .before .before .before .before .before .before .before .before .before)) (accepted ((c .before .before .before .before .before .before .before .before .before .before)) (c .before .before .before .before .before .before .unlock-refusal .result) (c .before .before .before .before .before .before .unlock-refusal .ensures) (c .before .before .before .before .before .if1 .left) [])
+release-requires : tie.Need-release-requires
+release-requires c κs = numbers ((c .before .before .before .before .before .before .before)) (accepted ((c .before .before .before .before .before .before .before)) (c .before .before .before .unlock-refusal .result) (c .before .before .before .unlock-refusal .ensures) (c .before .before .if1 .left) [])
 
 wake-requires : tie.Need-wake-requires
-wake-requires c κs = (c .before .before .before .before .before .before .before .before .before .before .before .before .before .before .pre .jobs-fit, c .before .before .before .before .before .before .before .before .before .before .before .before .before .before .pre .objects-fit, c .before .before .before .before .before .before .before .before .before .before .before .before .before .before .pre .requests-fit)
+wake-requires c κs = ((c .before .before .before .before .before .before .before .before .before .before .before .pre) .jobs-fit, (c .before .before .before .before .before .before .before .before .before .before .before .pre) .objects-fit, (c .before .before .before .before .before .before .before .before .before .before .before .pre) .requests-fit)
 
 returns-2 : tie.Need-returns-2
 unfolding release
 returns-2 c =
-    let a = c .before .before .before .before .before .before .before .before .before .before .before .before .before .before .before .args in
+    let a = c .before .before .before .before .before .before .before .before .before .before .before .before .args in
     λ ps.
-    let s = whole ((c .before .before .before .before .before .before .before .before .before .before .before .before .before .before .before)) ps in
-    c .wake .ensures (a .active) (c .before .before .before .before .before .before .before .before .with .result) ps
-    ∙ (λ i. E.wake (stateOf (a .counts) ps (now (a .may-read)) (now (a .may-write)) (a .active) (c .before .before .before .before .before .before .before .before .with .ensures i) (c .before .before .before .before .before .before .release-set .ensures i) (c .before .before .before .before .release-set2 .ensures i) (now (a .request))))
-    ∙ sym (L.perform-accepted s 4 (a .rank) (a .object) (accepted ((c .before .before .before .before .before .before .before .before .before .before .before .before .before .before .before)) (c .before .before .before .before .before .before .before .before .before .before .before .unlock-refusal .result) (c .before .before .before .before .before .before .before .before .before .before .before .unlock-refusal .ensures) (c .before .before .before .before .before .before .before .before .before .before .if1 .left) ps) ∙ L.accepted-unlock s 4 (a .rank) (a .object) refl)
+    let s = whole ((c .before .before .before .before .before .before .before .before .before .before .before .before)) ps in
+    c .wake .ensures (a .active) _ ps
+    ∙ (λ i. E.wake (stateOf (a .counts) ps (now (a .may-read)) (now (a .may-write)) (a .active) (c .before .before .before .before .release .ensures .0 i) (c .before .before .before .before .release .ensures .1 i) (now (a .writers)) (now (a .request))))
+    ∙ sym (L.perform-accepted s 4 (a .rank) (a .object) (accepted ((c .before .before .before .before .before .before .before .before .before .before .before .before)) (c .before .before .before .before .before .before .before .before .unlock-refusal .result) (c .before .before .before .before .before .before .before .before .unlock-refusal .ensures) (c .before .before .before .before .before .before .before .if1 .left) ps) ∙ L.accepted-unlock s 4 (a .rank) (a .object) refl)
 
 pub unlock-spec : {M : Type 1} → statement M
 unlock-spec =
@@ -72,8 +66,6 @@ unlock-spec =
     (tie.spec
     unlock-refusal-requires
     returns
-    with-requires
-    release-set-requires
-    release-set-requires-2
+    release-requires
     wake-requires
     returns-2)

@@ -30,25 +30,28 @@ unfolding R.eventRefusal
 returns-2 c = λ u ps mr mw. sym (simp (sym (c .before .before .before .within .ensures) ∙ not-false (c .before .before .before .within .result) (c .before .before .if1 .left), sym (c .before .within2 .ensures) ∙ not-true (c .before .within2 .result) (c .if2 .taken)))
 
 set-of-requires : tie.Need-set-of-requires
-set-of-requires c κs = omega (arith, between-true 1 (c .before .before .before .before .args .counts .objects) (c .before .before .before .before .args .object) (sym (c .before .within2 .ensures) ∙ not-false (c .before .within2 .result) (c .if2 .left)), c .before .before .before .before .pre)
+set-of-requires c κs = omega (arith, between-true 1 (c .before .before .before .before .args .counts .objects) (c .before .before .before .before .args .object) (sym (c .before .within2 .ensures) ∙ not-false (c .before .within2 .result) (c .if2 .left)), (c .before .before .before .before .pre))
 
 contains-requires : tie.Need-contains-requires
-contains-requires c κs = omega (arith, between-true 1 (c .before .before .before .before .before .args .counts .jobs) (c .before .before .before .before .before .args .rank) (sym (c .before .before .before .before .within .ensures) ∙ not-false (c .before .before .before .before .within .result) (c .before .before .before .if1 .left)), c .before .before .before .before .before .pre)
+contains-requires c κs = omega (arith, between-true 1 (c .before .before .before .before .before .args .counts .jobs) (c .before .before .before .before .before .args .rank) (sym (c .before .before .before .before .within .ensures) ∙ not-false (c .before .before .before .before .within .result) (c .before .before .before .if1 .left)), (c .before .before .before .before .before .pre))
 
 set-of-requires-2 : tie.Need-set-of-requires-2
-set-of-requires-2 c κs = omega (arith, between-true 1 (c .before .before .before .before .before .before .args .counts .objects) (c .before .before .before .before .before .before .args .object) (sym (c .before .before .before .within2 .ensures) ∙ not-false (c .before .before .before .within2 .result) (c .before .before .if2 .left)), c .before .before .before .before .before .before .pre)
+set-of-requires-2 c κs = omega (arith, between-true 1 (c .before .before .before .before .before .before .args .counts .objects) (c .before .before .before .before .before .before .args .object) (sym (c .before .before .before .within2 .ensures) ∙ not-false (c .before .before .before .within2 .result) (c .before .before .if2 .left)), (c .before .before .before .before .before .before .pre))
 
 contains-requires-2 : tie.Need-contains-requires-2
-contains-requires-2 c κs = omega (arith, between-true 1 (c .before .before .before .before .before .before .before .args .counts .jobs) (c .before .before .before .before .before .before .before .args .rank) (sym (c .before .before .before .before .before .before .within .ensures) ∙ not-false (c .before .before .before .before .before .before .within .result) (c .before .before .before .before .before .if1 .left)), c .before .before .before .before .before .before .before .pre)
-
-contains-requires-3 : tie.Need-contains-requires-3
-contains-requires-3 c κs = omega (arith, between-true 1 (c .before .before .before .before .before .before .before .before .args .counts .jobs) (c .before .before .before .before .before .before .before .before .args .rank) (sym (c .before .before .before .before .before .before .before .within .ensures) ∙ not-false (c .before .before .before .before .before .before .before .within .result) (c .before .before .before .before .before .before .if1 .left)), c .before .before .before .before .before .before .before .before .pre)
-
-is-waiting-requires : tie.Need-is-waiting-requires
-is-waiting-requires c κs = omega (arith, between-true 1 (c .before .before .before .before .before .before .before .before .before .args .counts .jobs) (c .before .before .before .before .before .before .before .before .before .args .rank) (sym (c .before .before .before .before .before .before .before .before .within .ensures) ∙ not-false (c .before .before .before .before .before .before .before .before .within .result) (c .before .before .before .before .before .before .before .if1 .left)), c .before .before .before .before .before .before .before .before .before .pre)
+contains-requires-2 c κs = omega (arith, between-true 1 (c .before .before .before .before .before .before .before .args .counts .jobs) (c .before .before .before .before .before .before .before .args .rank) (sym (c .before .before .before .before .before .before .within .ensures) ∙ not-false (c .before .before .before .before .before .before .within .result) (c .before .before .before .before .before .if1 .left)), (c .before .before .before .before .before .before .before .pre))
 
 refused-if-requires : tie.Need-refused-if-requires
 refused-if-requires c κs = search needs
+
+contains-requires-3 : tie.Need-contains-requires-3
+contains-requires-3 c κs = omega (arith, between-true 1 (c .before .before .before .before .before .before .before .before .before .args .counts .jobs) (c .before .before .before .before .before .before .before .before .before .args .rank) (sym (c .before .before .before .before .before .before .before .before .within .ensures) ∙ not-false (c .before .before .before .before .before .before .before .before .within .result) (c .before .before .before .before .before .before .before .if1 .left)), (c .before .before .before .before .before .before .before .before .before .pre))
+
+is-waiting-requires : tie.Need-is-waiting-requires
+is-waiting-requires c κs = omega (arith, between-true 1 (c .before .before .before .before .before .before .before .before .before .before .args .counts .jobs) (c .before .before .before .before .before .before .before .before .before .before .args .rank) (sym (c .before .before .before .before .before .before .before .before .before .within .ensures) ∙ not-false (c .before .before .before .before .before .before .before .before .before .within .result) (c .before .before .before .before .before .before .before .before .if1 .left)), (c .before .before .before .before .before .before .before .before .before .before .pre))
+
+refused-if-requires-2 : tie.Need-refused-if-requires-2
+refused-if-requires-2 c κs = search needs
 
 job-event-refusal-requires : tie.Need-job-event-refusal-requires
 job-event-refusal-requires c κs = search needs
@@ -56,14 +59,16 @@ job-event-refusal-requires c κs = search needs
 returns-3 : tie.Need-returns-3
 unfolding R.eventRefusal
 returns-3 c =
-    let a = c .before .before .before .before .before .before .before .before .before .before .before .before .args in
+    let a = c .before .before .before .before .before .before .before .before .before .before .before .before .before .args in
+    let read = c .before .before .before .before .before .before .before .contains .ensures ∙ ap (λ (v : ℕ). member v (a .rank)) (c .before .before .before .before .before .before .before .before .set-of .ensures) in
+    let written = c .before .before .before .before .before .contains2 .ensures ∙ ap (λ (v : ℕ). member v (a .rank)) (c .before .before .before .before .before .before .set-of2 .ensures) in
     λ u ps mr mw. c .job-event-refusal .ensures
-    ∙ ap₂ (λ (b w : Bool). 13 if not b else 14 if w else c .before .refused-if .result) (c .before .before .before .contains3 .ensures) (c .before .before .is-waiting .ensures)
-    ∙ ap (λ (n : ℕ). 13 if not (member (a .active) (a .rank)) else 14 if not (eqb (at (now (a .request)) (a .rank)) 0) else n) (c .before .refused-if .ensures
-    ∙ ap₂ (λ (x y : Bool). 18 if not (x || y) else 0)
-    (c .before .before .before .before .before .before .contains .ensures ∙ ap (λ (v : ℕ). member v (a .rank)) (c .before .before .before .before .before .before .before .set-of .ensures))
-    (c .before .before .before .before .contains2 .ensures ∙ ap (λ (v : ℕ). member v (a .rank)) (c .before .before .before .before .before .set-of2 .ensures)))
-    ∙ sym (simp (sym (c .before .before .before .before .before .before .before .before .before .before .before .within .ensures) ∙ not-false (c .before .before .before .before .before .before .before .before .before .before .before .within .result) (c .before .before .before .before .before .before .before .before .before .before .if1 .left), sym (c .before .before .before .before .before .before .before .before .before .within2 .ensures) ∙ not-false (c .before .before .before .before .before .before .before .before .before .within2 .result) (c .before .before .before .before .before .before .before .before .if2 .left)))
+    ∙ ap₂ (λ (b w : Bool). 13 if not b else 14 if w else c .before .refused-if2 .result) (c .before .before .before .contains3 .ensures) (c .before .before .is-waiting .ensures)
+    ∙ ap (λ (n : ℕ). 13 if not (member (a .active) (a .rank)) else 14 if not (eqb (at (now (a .request)) (a .rank)) 0) else n)
+    (c .before .refused-if2 .ensures
+    ∙ ap (λ (n : ℕ). 18 if not (c .before .before .before .before .before .before .before .contains .result || c .before .before .before .before .before .contains2 .result) else n) (c .before .before .before .before .refused-if .ensures)
+    ∙ ap₂ (λ (x y : Bool). 18 if not (x || y) else 21 if y else 0) read written)
+    ∙ sym (simp (sym (c .before .before .before .before .before .before .before .before .before .before .before .before .within .ensures) ∙ not-false (c .before .before .before .before .before .before .before .before .before .before .before .before .within .result) (c .before .before .before .before .before .before .before .before .before .before .before .if1 .left), sym (c .before .before .before .before .before .before .before .before .before .before .within2 .ensures) ∙ not-false (c .before .before .before .before .before .before .before .before .before .before .within2 .result) (c .before .before .before .before .before .before .before .before .before .if2 .left)))
 
 pub unlock-refusal-spec : {M : Type 1} → statement M
 unlock-refusal-spec =
@@ -77,8 +82,9 @@ unlock-refusal-spec =
     contains-requires
     set-of-requires-2
     contains-requires-2
+    refused-if-requires
     contains-requires-3
     is-waiting-requires
-    refused-if-requires
+    refused-if-requires-2
     job-event-refusal-requires
     returns-3)

@@ -1,0 +1,2 @@
+-- The proofs of the functions, and what several of them use.
+pub mod Elements
