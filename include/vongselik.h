@@ -4,7 +4,7 @@
  * The caller keeps the state in a struct, sends events to it, and asks questions about it. A job is its rank: 1 is the most urgent. Ranks and
  * objects count from 1, processors from 0.
  *
- * Every call may be given any contents of the struct, any bytes and any numbers: it answers, or refuses by a number from 1 to 20 (below).
+ * Every call may be given any contents of the struct, any bytes and any numbers: it answers, or refuses by a number from 1 to 21 (below).
  * A call that refuses leaves every byte that was lent to it as it was; an event that is refused in a list of events leaves the state as it was, and has its
  * answer as the others have. No call allocates, blocks, ends the program or keeps anything between calls, so that two threads may work on two states.
  * Reading a table takes about 6 KB of stack and writing one about 14 KB, an event, a list of events or a question less than 1 KB.
@@ -49,7 +49,7 @@ typedef struct vongselik_state {
     uint64_t active;                                   /* the ranks of active jobs */
     uint64_t unlocked;                                 /* the ranks of jobs that have unlocked in this run, and may not lock any more */
     uint64_t readers[VONGSELIK_MOST_OBJECTS];          /* by object - 1: the ranks that hold a read lock */
-    uint64_t writers[VONGSELIK_MOST_OBJECTS];          /* by object - 1: the rank that holds the write lock */
+    uint64_t writers[VONGSELIK_MOST_OBJECTS];          /* by object - 1: the rank that holds the write lock, until its run ends */
     uint16_t request[VONGSELIK_MOST_JOBS];             /* by rank - 1: 0 if the job does not wait, else mode * 256 + object (mode 1 read, 2 write) */
 } vongselik_state;
 
@@ -60,7 +60,7 @@ enum {
     VONGSELIK_START = 1,      /* an idle job becomes active */
     VONGSELIK_READ_LOCK = 2,  /* granted, or the job waits */
     VONGSELIK_WRITE_LOCK = 3, /* granted, or the job waits */
-    VONGSELIK_UNLOCK = 4,     /* gives up a held lock of either mode; the job may lock no more in this run */
+    VONGSELIK_UNLOCK = 4,     /* gives up a held read lock; the job may lock no more in this run. A write lock stays until the run ends */
     VONGSELIK_FINISH = 5,     /* ends the run and releases everything */
     VONGSELIK_ABANDON = 6     /* as finish, also for a waiting job, whose request is dropped */
 };
@@ -105,7 +105,8 @@ enum {
     VONGSELIK_ALREADY_HELD = 17,
     VONGSELIK_NOT_HELD = 18,
     VONGSELIK_NO_SUCH_PROCESSOR = 19,
-    VONGSELIK_BUFFER_TOO_SHORT = 20
+    VONGSELIK_BUFFER_TOO_SHORT = 20,
+    VONGSELIK_UNLOCK_OF_WRITE_LOCK = 21
 };
 
 /* The answer to an event. What its case does not have is 0. */
@@ -218,7 +219,7 @@ static inline vongselik_answer vongselik_unpack(uint32_t packed)
 }
 
 /* An event of a job: its kind, its rank, and an object (0 for start, finish and abandon). Changes the state, and answers granted, waits or done.
- * Refusals: 8 to 18, by the answer VONGSELIK_REFUSED. The state is then as it was. The table in the state is never changed. */
+ * Refusals: 8 to 18, 21, by the answer VONGSELIK_REFUSED. The state is then as it was. The table in the state is never changed. */
 static inline vongselik_answer vongselik_event(vongselik_state *state, uint8_t kind, uint8_t rank, uint8_t object)
 {
     return vongselik_unpack(vongselik_parts_event(
@@ -229,7 +230,7 @@ static inline vongselik_answer vongselik_event(vongselik_state *state, uint8_t k
 /* A list of events, three bytes each: kind, rank, object. Changes the state and answers them in their order, each as vongselik_event does:
  * answers[i] is the packed answer to the event at byte 3 * i (vongselik_unpack). The events are 3 * count bytes, the answers count elements.
  * The whole state is tested once, and not at each event. Answers how many events it answered: count.
- * Refusals: 8 to 18, each event's by its own answer. A refused event leaves the state as it was, and those after it are answered all the same;
+ * Refusals: 8 to 18, 21, each event's by its own answer. A refused event leaves the state as it was, and those after it are answered all the same;
  * a state that is not well formed refuses every event by 8, and is then as it was. The table in the state is never changed.
  * Use it for a replay, a log or a test. In live control send one event at a time: here nobody sees an answer before all are given, and there
  * another may ask about the state or change it between two events. */

@@ -35,12 +35,12 @@ static void compare_names(void)
         VONGSELIK_PROCESSOR_BYTE_TOO_LARGE, VONGSELIK_ENTRY_OUT_OF_RANGE, VONGSELIK_ENTRY_OUT_OF_ORDER, VONGSELIK_STATE_NOT_WELL_FORMED,
         VONGSELIK_UNKNOWN_KIND, VONGSELIK_RANK_OUT_OF_RANGE, VONGSELIK_OBJECT_OUT_OF_RANGE, VONGSELIK_ALREADY_ACTIVE, VONGSELIK_IDLE, VONGSELIK_WAITING,
         VONGSELIK_LOCK_AFTER_UNLOCK, VONGSELIK_NOT_DECLARED, VONGSELIK_ALREADY_HELD, VONGSELIK_NOT_HELD, VONGSELIK_NO_SUCH_PROCESSOR,
-        VONGSELIK_BUFFER_TOO_SHORT};
+        VONGSELIK_BUFFER_TOO_SHORT, VONGSELIK_UNLOCK_OF_WRITE_LOCK};
     int i;
     for (i = 1; i <= 6; i++) check(kinds[i] == i, "a kind's number");
     for (i = 1; i <= 4; i++) check(answers[i] == i, "an answer's number");
     for (i = 1; i <= 3; i++) check(reasons[i] == i, "a reason's number");
-    for (i = 0; i <= 20; i++) check(refusals[i] == i, "a refusal's number");
+    for (i = 0; i <= 21; i++) check(refusals[i] == i, "a refusal's number");
     check(VONGSELIK_MOST_JOBS == 64 && VONGSELIK_MOST_OBJECTS == 128 && VONGSELIK_MOST_PROCESSORS == 8, "a limit");
     check(VONGSELIK_NOBODY == 65 && VONGSELIK_LONGEST_TABLE == 10 + 64 + 3 * 8192, "a limit");
 }

@@ -1,4 +1,4 @@
-/* The rule of document 01 written a second time: see model.h. */
+/* The rule of document 01, with CR 1 of document 02, written a second time: see model.h. */
 #include "model.h"
 
 #include <string.h>
@@ -196,6 +196,7 @@ static int event_refusal(const model *m, int kind, int rank, int object)
     if (is_lock_kind(kind) && !may(m, kind - 1, rank, object)) return 16;
     if (is_lock_kind(kind) && held_already(m, kind - 1, rank, object)) return 17;
     if (kind == VONGSELIK_UNLOCK && !m->reads[object][rank] && !m->writes[object][rank]) return 18;
+    if (kind == VONGSELIK_UNLOCK && m->writes[object][rank]) return 21;
     return 0;
 }
 
@@ -239,7 +240,7 @@ vongselik_answer model_event(model *m, int kind, int rank, int object)
         return a;
     }
     if (kind == VONGSELIK_UNLOCK) {
-        m->reads[object][rank] = m->writes[object][rank] = 0;
+        m->reads[object][rank] = 0;
         m->unlocked[rank] = 1;
     } else {
         end_run(m, rank);
