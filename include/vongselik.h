@@ -49,7 +49,7 @@ typedef struct vongselik_state {
     uint64_t active;                                   /* the ranks of active jobs */
     uint64_t unlocked;                                 /* the ranks of jobs that have unlocked in this run, and may not lock any more */
     uint64_t readers[VONGSELIK_MOST_OBJECTS];          /* by object - 1: the ranks that hold a read lock */
-    uint64_t writers[VONGSELIK_MOST_OBJECTS];          /* by object - 1: the rank that holds the write lock, until its run ends */
+    uint64_t writers[VONGSELIK_MOST_OBJECTS];          /* by object - 1: the rank that holds the write lock, to the end of its run */
     uint16_t request[VONGSELIK_MOST_JOBS];             /* by rank - 1: 0 if the job does not wait, else mode * 256 + object (mode 1 read, 2 write) */
 } vongselik_state;
 
@@ -60,7 +60,7 @@ enum {
     VONGSELIK_START = 1,      /* an idle job becomes active */
     VONGSELIK_READ_LOCK = 2,  /* granted, or the job waits */
     VONGSELIK_WRITE_LOCK = 3, /* granted, or the job waits */
-    VONGSELIK_UNLOCK = 4,     /* gives up a held read lock; the job may lock no more in this run. A write lock stays until the run ends */
+    VONGSELIK_UNLOCK = 4,     /* for read locks: gives up the lock; the job may lock no more in this run. Write locks stay until the end */
     VONGSELIK_FINISH = 5,     /* ends the run and releases everything */
     VONGSELIK_ABANDON = 6     /* as finish, also for a waiting job, whose request is dropped */
 };

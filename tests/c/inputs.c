@@ -70,15 +70,25 @@ size_t spoil_table(uint8_t *b, size_t n)
 
 /* ---- Events */
 
+/* An object on which the rank, 1 to 64, holds a lock; object 1 if it holds none. */
+static int held_object(const vongselik_state *s, int rank)
+{
+    int i, first = below(128);
+    for (i = first; i < first + 128; i++)
+        if ((s->readers[i % 128] | s->writers[i % 128]) >> (rank - 1) & 1) return i % 128 + 1;
+    return 1;
+}
+
 event any_event(const vongselik_state *s)
 {
-    int rank = about(s->jobs ? s->jobs : 1), kind = below(20) ? 1 + below(6) : below(256), object;
+    int rank = about(s->jobs ? s->jobs : 1), kind = below(20) ? 1 + below(6) : below(256), object, known = rank >= 1 && rank <= 64;
     event e;
-    if (below(3) && rank >= 1 && rank <= 64) {
+    if (below(3) && known) {
         if (!(s->active >> (rank - 1) & 1)) kind = VONGSELIK_START;
         else if (below(3)) kind = VONGSELIK_READ_LOCK + below(2);
     }
     object = kind >= 2 && kind <= 4 ? about(s->objects ? s->objects : 1) : below(30) ? 0 : below(256);
+    if (kind == VONGSELIK_UNLOCK && known && below(4)) object = held_object(s, rank);
     e.kind = (uint8_t)kind;
     e.rank = (uint8_t)rank;
     e.object = (uint8_t)object;

@@ -29,7 +29,7 @@ size_t make_table(uint8_t *bytes);
 /* Changes some bytes, or cuts the bytes short; answers the new length. */
 size_t spoil_table(uint8_t *bytes, size_t size);
 
-/* A random event; more often than not of a kind that the job may send. */
+/* A random event; more often than not of a kind that the job may send, and an unlock of an object that it has locked. */
 event any_event(const vongselik_state *s);
 
 /* Locks and requests strewn over the table, by and large well formed, though no events lead there. */
