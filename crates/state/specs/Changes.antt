@@ -112,7 +112,7 @@ module _ (s : State) (r : ℕ) (Z : Sized s) (o : ℕ) (low : 1 ≤ o) (high : o
   unfolding release
   release-others m p d =
       either-mode (λ f. f (at (release s r o .readers) p) (at (release s r o .writers) p) ≡ f (at (s .readers) p) (at (s .writers) p))
-      (at-put-other (s .readers) o (without (at (s .readers) o) r) p d) refl m
+      (at-put-other (s .readers) o (without (at (s .readers) o) r) p d) (release-writers p) m
 
   -- what holds of the readers without r and of the writers of o holds of its holders in either mode
   pub release-either : (P : ℕ → ℕ → Type 0) → P (without (holders s read o) r) (holders s read o) → P (holders s write o) (holders s write o)
@@ -120,7 +120,7 @@ module _ (s : State) (r : ℕ) (Z : Sized s) (o : ℕ) (low : 1 ≤ o) (high : o
   unfolding release
   release-either P reading writing =
       either-mode (λ f. P (f (at (release s r o .readers) o) (at (release s r o .writers) o)) (f (at (s .readers) o) (at (s .writers) o)))
-      (subst (λ v. P v (holders s read o)) (sym release-readers) reading) writing
+      (subst (λ v. P v (holders s read o)) (sym release-readers) reading) (subst (λ v. P v (holders s write o)) (sym (release-writers o)) writing)
 
   -- r, which has no write lock there, holds nothing there
   pub release-none : holds s write r o ≡ false → (m : ℕ) → holds (release s r o) m r o ≡ false
