@@ -54,7 +54,7 @@ by-search s P none one = go (wakeable s) (wakeable-found s)
     go w (inl z) = subst (λ v. P v (woken s v)) (sym (z .0)) (none (z .1))
     go w (inr W) = subst (P w) (sym (woken-granted s w (W .low))) (one w W)
 
-pub woken-keeps : (s : State) → Facts s → Facts (woken s (wakeable s))
+woken-keeps : (s : State) → Facts s → Facts (woken s (wakeable s))
 woken-keeps s F =
     by-search s (λ w t. Facts t) (λ none. F)
     (λ w W. (let is = wakes-is s w (W .low) (W .itself) in

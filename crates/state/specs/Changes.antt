@@ -35,7 +35,7 @@ abbrev pub SameLocks : State → State → ℕ → ℕ → Type 0
 SameLocks s t x p = (m : ℕ) → holds t m x p ≡ holds s m x p
 
 -- where the other jobs' locks stay, and those on other objects, each lock stays but r's on o
-pub other-locks : (s t : State) (r o : ℕ) → ((x : ℕ) → r ≢ x → Same s t x) → ((m p : ℕ) → o ≢ p → holders t m p ≡ holders s m p)
+other-locks : (s t : State) (r o : ℕ) → ((x : ℕ) → r ≢ x → Same s t x) → ((m p : ℕ) → o ≢ p → holders t m p ≡ holders s m p)
     → (x p : ℕ) → SameLocks s t x p ⊎ ((r ≡ x) × (o ≡ p))
 other-locks s t r o jobs objects x p = elim (ℕ-discrete r x) [
   | yes e ↦ elim (ℕ-discrete o p) [ yes q ↦ inr (e, q) | no d ↦ inl (λ m. ap (λ v. member v x) (objects m p d)) ]
@@ -99,12 +99,12 @@ module _ (s : State) (r : ℕ) where
 -- ---- the release of one read lock
 
 module _ (s : State) (r : ℕ) (Z : Sized s) (o : ℕ) (low : 1 ≤ o) (high : o ≤ mostObjects) where
-  pub release-readers : holders (release s r o) read o ≡ without (holders s read o) r
+  release-readers : holders (release s r o) read o ≡ without (holders s read o) r
   unfolding release
   release-readers = at-put-same (s .readers) o (without (at (s .readers) o) r) low (omega (arith, Z .readers))
 
   -- the writers of every object stay
-  pub release-writers : (p : ℕ) → holders (release s r o) write p ≡ holders s write p
+  release-writers : (p : ℕ) → holders (release s r o) write p ≡ holders s write p
   unfolding release
   release-writers p = refl
 

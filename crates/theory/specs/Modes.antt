@@ -1,10 +1,9 @@
 -- The modes of locks: what a state shows of them, what one event may do to them beside what Step says, and one law for each kind of event.
 -- Modes are numbers, 0 none, 1 read, 2 write: a stronger one is a greater number.
-use mathlib.Core.Path.{_≡_, refl, sym, subst, ap, _∙_}
-use mathlib.Core.Logic.{_⊎_, _≢_, inl, inr}
+use mathlib.Core.Path.{_≡_, refl, sym, subst, _∙_}
+use mathlib.Core.Logic.{_≢_, _⊎_, inl, inr}
 use Prim.Native.Nat.{ℕ, _≤_, _<_}
 use native.Mathlib.Omega.{arith}
-use native.Mathlib.Decide.{decLt}
 use Rattle.theory.specs.Words.{Label, Grants, Ends, Wakens}
 use Rattle.theory.specs.Machine.{View, Releases, TurnsWait}
 use Rattle.theory.specs.Keeps.{Takes}
