@@ -9,6 +9,10 @@ use lib.ListN.{length, take, drop, length-append}
 use lib.Seq.{sets, sets-eq, length-sets, take-at}
 use Rattle.basics.specs.Stores.{sets-append}
 
+-- a buffer with a text at its front, and the bytes behind as they were
+abbrev pub atFront : List ℕ → List ℕ → List ℕ
+atFront text buffer = text ++ drop (length text) buffer
+
 -- a text laid from index `start` on, up to `end`, in no more than `room` bytes
 pub record Laid (before after : List ℕ) (start end room : ℕ) (text : List ℕ) : Type 0 where
   pub stored : after ≡ sets before start text

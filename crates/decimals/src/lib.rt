@@ -1,8 +1,10 @@
 // Bytes and decimal numbers, laid into a buffer one behind the other: each function answers the index behind what it laid.
+ghost use mathlib.Core.Path.{_≡_};
 ghost use mathlib.Core.List.{[], _∷_};
 ghost use Prim.Native.Nat.{_+_, _≤_, _<_};
 ghost use lib.ListN.{length};
 ghost use Rattle.decimals.specs.Decimal.{decimal, threeDigits};
+ghost use Rattle.decimals.specs.Fields.{rightAligned, digitOrSpace};
 ghost use Rattle.decimals.specs.Laid.{Laid};
 
 // A byte laid at the index.
@@ -38,6 +40,23 @@ pub fn lay_byte_number(buf: &mut [u8], at: usize, number: u8) -> usize
     ensures { λ r. ⌜ Laid (now (buf .entry)) (now (buf .exit)) at r 3 (decimal number) ⌝ }
 {
     lay_below_thousand(buf, at, number as u16)
+}
+
+// A byte's decimal digits laid from the index on, right-aligned in three bytes.
+pub fn lay_aligned(buf: &mut [u8], at: usize, number: u8) -> usize
+    requires { ⌜ at + 3 ≤ length (now buf) ⌝ }
+    ensures { λ r. ⌜ Laid (now (buf .entry)) (now (buf .exit)) at r 3 (rightAligned 3 (decimal number)) ⌝ }
+{
+    let hundreds = digit_or_space(number / 100);
+    let tens = digit_or_space(number / 10);
+    lay_three(buf, at, hundreds, tens, 48 + number % 10)
+}
+
+// The last digit of the number, and a space of 0: a digit that may be a leading zero.
+fn digit_or_space(number: u8) -> u8
+    ensures { λ r. ⌜ r ≡ digitOrSpace number ⌝ }
+{
+    if number == 0 { b' ' } else { 48 + number % 10 }
 }
 
 // A number's digits, where just these have room.

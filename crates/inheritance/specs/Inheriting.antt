@@ -1,5 +1,5 @@
--- Inherited ranks and the running job by whom each rank names: the array of the named holders, once made, answers for all jobs.
--- Then that these are the inherited ranks and the running job of the state with those named holders.
+-- Inherited ranks and the running job by the lock that each rank names: the array of the named locks' keys, once made, answers for all jobs and processors.
+-- Then that these are the inherited ranks and the running job of the state with those named locks.
 -- Assumes nothing.
 use mathlib.Core.Path.{_≡_, refl, sym, ap, _∙_}
 use mathlib.Core.Bool.{Bool, true, false, not, _&&_}
@@ -14,20 +14,20 @@ use Rattle.basics.specs.Loops.{least, least-same}
 use Rattle.ranks.specs.Ranks.{member}
 use Rattle.state.specs.declared.State.{State}
 use Rattle.state.specs.State.{isWaiting}
-use Rattle.weights.specs.Keys.{noKey}
+use Rattle.weights.specs.Keys.{noKey, keyHolder}
 use Rattle.rule.specs.Granting.{namedKey, namedHolder}
 use Rattle.inheritance.specs.Running.{inheritedFrom, inheritedRank, isReady, readyKey, runningRank}
 
--- each job's element is the rank that it names
+-- each job's element is the key of the lock that it names
 abbrev pub NamedBy : List ℕ → State → Type 0
-NamedBy named s = (r : ℕ) → 1 ≤ r → r ≤ s .counts .jobs → at named r ≡ namedHolder s r
+NamedBy named s = (r : ℕ) → 1 ≤ r → r ≤ s .counts .jobs → at named r ≡ namedKey s r
 
 -- r if it names j, else j
 abbrev pub heir : ℕ → ℕ → ℕ → ℕ
 heir named j r = if eqb named j then r else j
 
 unfoldable pub inheritedBy : ℕ → List ℕ → ℕ → ℕ
-inheritedBy jobs named j = least jobs j (λ r. heir (at named r) j r)
+inheritedBy jobs named j = least jobs j (λ r. heir (keyHolder (at named r)) j r)
 
 -- r, with its own processor and request, is an active job of processor p that isn't waiting
 abbrev pub readyBy : ℕ → ℕ → ℕ → ℕ → ℕ → Bool
@@ -40,7 +40,7 @@ unfoldable pub runningBy : ℕ → List ℕ → List ℕ → ℕ → List ℕ �
 runningBy jobs named processorOf active request p =
     least jobs noKey (λ r. readyKeyBy jobs named (readyBy (at processorOf r) p active (at request r) r) r) % 256
 
--- ---- of a state with these named holders
+-- ---- of a state with these named locks
 
 -- a job that doesn't wait names nobody, so it is enough to ask whom a job names
 names-waiting : (s : State) (j r : ℕ) → 1 ≤ j → inheritedFrom s j r ≡ heir (namedHolder s r) j r
@@ -55,8 +55,8 @@ module _ (named : List ℕ) (s : State) (by : NamedBy named s) where
   pub inherited-by : (j : ℕ) → 1 ≤ j → inheritedBy (s .counts .jobs) named j ≡ inheritedRank s j
   unfolding inheritedBy inheritedRank
   inherited-by j p =
-      least-same (s .counts .jobs) j (λ r. heir (at named r) j r) (inheritedFrom s j)
-      (λ r a b. ap (λ (n : ℕ). heir n j r) (by r a b) ∙ sym (names-waiting s j r p))
+      least-same (s .counts .jobs) j (λ r. heir (keyHolder (at named r)) j r) (inheritedFrom s j)
+      (λ r a b. ap (λ (n : ℕ). heir (keyHolder n) j r) (by r a b) ∙ sym (names-waiting s j r p))
 
   pub running-by : (p : ℕ) → runningBy (s .counts .jobs) named (s .«processor_of») (s .active) (s .request) p ≡ runningRank s p
   unfolding runningBy runningRank

@@ -1,4 +1,5 @@
 -- Inherited ranks, and the job that a processor runs by them.
 pub mod Running
+pub mod RunningLaws
 pub mod Inheriting
 pub mod Parts

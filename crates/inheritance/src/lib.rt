@@ -1,4 +1,4 @@
-// Inherited ranks, and the job that a processor runs. Whom each rank names is worked out once and answers for all jobs.
+// Inherited ranks, and the job that a processor runs. The lock that each rank names is worked out once and answers for all jobs and processors.
 ghost use mathlib.Core.Path.{_≡_};
 ghost use Prim.Native.Nat.{_≤_, min};
 ghost use Rattle.state.specs.State.{mostJobs, mostObjects};
@@ -16,28 +16,28 @@ use weights::NO_KEY;
 use weights::key_holder;
 use weights::lower;
 
-// A rank for each rank.
-type JobRanks = [u8; 64];
+// A key of a lock for each rank.
+pub type JobKeys = [u64; 64];
 
-// For each rank, the rank that it names; 0 where it does not wait or names nobody.
-fn named_holders<'a>(
+// For each rank, the key of the lock that it names; no lock's where it does not wait or names nobody.
+pub fn named_keys<'a>(
     counts: Counts,
     may_read: Sets<'a>,
     may_write: Sets<'a>,
     readers: Sets<'a>,
     writers: Sets<'a>,
     request: &'a JobRequests,
-) -> JobRanks
+) -> JobKeys
     requires { ⌜ (counts .jobs ≤ mostJobs) × (counts .objects ≤ mostObjects) ⌝ }
     ensures { λ r. ⌜ I.NamedBy r (waitsState counts (now («may_read» .entry)) (now («may_write» .entry)) (now (readers .entry)) (now (writers .entry)) (now (request .entry))) ⌝ }
 {
     let jobs = counts.jobs;
-    let mut named: JobRanks = [0; 64];
+    let mut named: JobKeys = [NO_KEY; 64];
     let mut rank: u8 = 0;
     while rank < jobs {
         let i = rank as usize;
         rank += 1;
-        named[i] = key_holder(named_key(
+        named[i] = named_key(
             counts,
             may_read,
             may_write,
@@ -45,7 +45,7 @@ fn named_holders<'a>(
             writers,
             request[i],
             rank,
-        ));
+        );
     }
     named
 }
@@ -64,8 +64,8 @@ fn lesser(a: u8, b: u8) -> u8
     if a < b { a } else { b }
 }
 
-// The most urgent of the rank and of the ranks that name it, by whom each rank names.
-fn inherited_by<'a>(jobs: u8, named: &'a JobRanks, rank: u8) -> u8
+// The most urgent of the rank and of the ranks that name it, by the lock that each rank names.
+pub fn inherited_by<'a>(jobs: u8, named: &'a JobKeys, rank: u8) -> u8
     requires { ⌜ jobs ≤ mostJobs ⌝ }
     ensures { λ r. ⌜ r ≡ I.inheritedBy jobs (now (named .entry)) rank ⌝ }
 {
@@ -74,7 +74,7 @@ fn inherited_by<'a>(jobs: u8, named: &'a JobRanks, rank: u8) -> u8
     while other < jobs {
         let i = other as usize;
         other += 1;
-        inherited = lesser(inherited, heir(named[i], rank, other));
+        inherited = lesser(inherited, heir(key_holder(named[i]), rank, other));
     }
     inherited
 }
@@ -92,7 +92,7 @@ pub fn inherited_rank<'a>(
     requires { ⌜ (counts .jobs ≤ mostJobs) × (counts .objects ≤ mostObjects) × (1 ≤ rank) ⌝ }
     ensures { λ r. ⌜ r ≡ R.inheritedRank (waitsState counts (now («may_read» .entry)) (now («may_write» .entry)) (now (readers .entry)) (now (writers .entry)) (now (request .entry))) rank ⌝ }
 {
-    let named = named_holders(counts, may_read, may_write, readers, writers, request);
+    let named = named_keys(counts, may_read, may_write, readers, writers, request);
     inherited_by(counts.jobs, &named, rank)
 }
 
@@ -105,7 +105,7 @@ fn is_ready(own: u8, processor: u8, active: RankSet, request: u16, rank: u8) -> 
 }
 
 // The key that orders ready jobs by inherited rank; no lock's key for a job that isn't ready.
-fn ready_key<'a>(jobs: u8, named: &'a JobRanks, ready: bool, rank: u8) -> u64
+fn ready_key<'a>(jobs: u8, named: &'a JobKeys, ready: bool, rank: u8) -> u64
     requires { ⌜ jobs ≤ mostJobs ⌝ }
     ensures { λ r. ⌜ r ≡ I.readyKeyBy jobs (now (named .entry)) ready rank ⌝ }
 {
@@ -116,10 +116,10 @@ fn ready_key<'a>(jobs: u8, named: &'a JobRanks, ready: bool, rank: u8) -> u64
     }
 }
 
-// The ready rank of the processor with the most urgent inherited rank, by whom each rank names; 0 where none is ready.
-fn running_by<'a>(
+// The ready rank of the processor with the most urgent inherited rank, by the lock that each rank names; 0 where none is ready.
+pub fn running_by<'a>(
     jobs: u8,
-    named: &'a JobRanks,
+    named: &'a JobKeys,
     processor_of: &'a JobProcessors,
     active: RankSet,
     request: &'a JobRequests,
@@ -154,7 +154,7 @@ pub fn running_rank<'a>(
     requires { ⌜ (counts .jobs ≤ mostJobs) × (counts .objects ≤ mostObjects) ⌝ }
     ensures { λ r. ⌜ r ≡ R.runningRank (runState counts (now («processor_of» .entry)) active (now («may_read» .entry)) (now («may_write» .entry)) (now (readers .entry)) (now (writers .entry)) (now (request .entry))) processor ⌝ }
 {
-    let named = named_holders(counts, may_read, may_write, readers, writers, request);
+    let named = named_keys(counts, may_read, may_write, readers, writers, request);
     running_by(
         counts.jobs,
         &named,

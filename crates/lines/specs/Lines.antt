@@ -8,24 +8,10 @@ use Rattle.basics.specs.Choice.{if_then_else_, between}
 use Rattle.basics.specs.Arrays.{at}
 use Rattle.state.specs.declared.Counts.{Counts}
 use Rattle.decimals.specs.Decimal.{decimal}
+use Rattle.decimals.specs.Fields.{line}
+use Rattle.decimals.specs.Laid.{atFront}
 use Rattle.events.specs.declared.Answer.{Answer}
 use Rattle.events.specs.Answers.{Paper, paper}
-
--- ---- "Fields stand one space apart .. and every line ends with a line feed."
-
-abbrev pub space : ℕ
-space = 32
-
-abbrev pub lineFeed : ℕ
-lineFeed = 10
-
--- what stands behind a line's first field: the others, each after a space, and the line feed
-abbrev pub behind : List (List ℕ) → List ℕ
-behind [] = lineFeed ∷ []
-behind (field ∷ fields) = space ∷ (field ++ behind fields)
-
-abbrev pub line : List ℕ → List (List ℕ) → List ℕ
-line field fields = field ++ behind fields
 
 -- ---- letters
 
@@ -64,10 +50,6 @@ unfoldable pub refusedLine : (number : ℕ) → List ℕ
 refusedLine number = line (88 ∷ []) (decimal number ∷ [])
 
 -- ---- a line in a buffer
-
--- a buffer with a line laid at its front, and the bytes behind as they were
-abbrev pub atFront : List ℕ → List ℕ → List ℕ
-atFront text buffer = text ++ drop (length text) buffer
 
 -- what a line's function does: it answers the line's length, and the buffer of 64 bytes has the line at its front
 pub record LineLaid (text before after : List ℕ) (answer : ℕ) : Type 0 where

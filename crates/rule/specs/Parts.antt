@@ -11,7 +11,7 @@ use Rattle.state.specs.State.{stateOf, holders, declared, requestOf, write}
 use Rattle.weights.specs.Weights.{weight}
 use Rattle.weights.specs.Keys.{noKey, othersKey, objectKey, lowestKey, lowestKeyBy}
 use Rattle.weights.specs.Parts.{locksOf, keyAt, lowest-key-parts, lowest-key-at}
-use Rattle.rule.specs.Granting.{namedKeyOf, namedKey, namedHolder, reasonOf, reason, wakeable}
+use Rattle.rule.specs.Granting.{namedKeyOf, namedKey, reasonOf, reason, wakeable}
 
 -- a state with these counts, declarations, locks and requests
 abbrev pub waitsState : Counts → List ℕ → List ℕ → List ℕ → List ℕ → List ℕ → State
@@ -27,9 +27,9 @@ pub named-key-parts : (s : State) (j : ℕ) → namedKey s j ≡ namedKeyOf (req
 unfolding lowestKeyBy objectKey othersKey weight namedKey
 named-key-parts s j = refl
 
-pub named-holder-parts : (s : State) (j : ℕ) → namedHolder s j ≡ namedHolder (waitsOf s) j
+pub named-waits-parts : (s : State) (j : ℕ) → namedKey s j ≡ namedKey (waitsOf s) j
 unfolding lowestKeyBy objectKey othersKey weight namedKey
-named-holder-parts s j = refl
+named-waits-parts s j = refl
 
 pub reason-parts : (s : State) (m o h p : ℕ) → reason s m o h p ≡ reasonOf m o h p (holders s write p) (declared s write p)
 unfolding reason

@@ -13,7 +13,7 @@ use Rattle.ranks.specs.UnionLaws.{member-union, size-counts}
 use Rattle.state.specs.declared.State.{State}
 use Rattle.table_writer.specs.Writing.{entryBytes, rankBytes, entriesBytes}
 use Rattle.table_writer.specs.Laying.{declaredModeOf, declaredModes, entriesOfRank, entriesOfRanks, entriesOn, entryTotal}
-use Rattle.table_writer.specs.JoinedLaws.{joined-grows}
+use Rattle.basics.specs.JoinedLaws.{joined-grows}
 
 -- ---- one entry
 

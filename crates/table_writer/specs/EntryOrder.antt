@@ -8,7 +8,7 @@ use Rattle.state.specs.State.{mostObjects}
 use Rattle.table_bytes.specs.Bytes.{order}
 use Rattle.table_writer.specs.Writing.{entryBytes}
 use Rattle.table_writer.specs.Laying.{entriesOfRank, entriesOfRanks}
-use Rattle.table_writer.specs.JoinedLaws.{joined-same, joined-none, joined-add}
+use Rattle.basics.specs.JoinedLaws.{joined-same, joined-none, joined-add}
 use Rattle.table_writer.specs.EntryLaws.{entry-none, entry-some}
 
 rank-none : (mode : ℕ → ℕ → ℕ) (r n : ℕ) → ((o : ℕ) → 1 ≤ o → o ≤ n → mode r o ≡ 0) → entriesOfRank mode r n ≡ []

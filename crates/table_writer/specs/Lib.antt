@@ -2,7 +2,6 @@
 pub mod Answers
 pub mod Writing
 pub mod Laying
-pub mod JoinedLaws
 pub mod EntryLaws
 pub mod TableFits
 pub mod TableLaws

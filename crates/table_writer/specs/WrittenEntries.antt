@@ -22,7 +22,7 @@ use Rattle.table_bytes.specs.AcceptedTable.{EntryFits}
 use Rattle.table.specs.Reading.{givesRight, withRight, declaredIn}
 use Rattle.table_writer.specs.Writing.{entryBytes}
 use Rattle.table_writer.specs.Laying.{declaredModes, entriesOfRank, entriesOfRanks}
-use Rattle.table_writer.specs.JoinedLaws.{joined-split}
+use Rattle.basics.specs.JoinedLaws.{joined-split}
 use Rattle.table_writer.specs.EntryLaws.{entry-none, entry-some}
 use Rattle.table_writer.specs.RightLaws.{mode-reads, mode-writes, mode-most, no-mode, right-made, right-kept, length-declared}
 

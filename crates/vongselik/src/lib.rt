@@ -8,6 +8,7 @@ ghost use Rattle.manager.specs.Step.{step};
 mod asking;
 mod entries;
 mod lists;
+mod pages;
 mod tables;
 
 use ranks::RankSet;

@@ -7,6 +7,7 @@ use native.Mathlib.Omega.{arith}
 use denote.Ref.{now}
 use Rattle.basics.specs.Arrays.{at, at-next}
 use Rattle.basics.specs.Loops.{least, least-more}
+use Rattle.weights.specs.Keys.{keyHolder}
 use Rattle.inheritance.specs.Inheriting.{heir, inheritedBy}
 use borrow.Author.Needs.{needs}
 use Rattle.inheritance.proofs.inherited_by.Statement.{statement}
@@ -29,8 +30,14 @@ cast-i c = search needs
 add-other : tie.Need-add-other Inv-loop μ-loop
 add-other c = search needs
 
-element-copy-out-heir : tie.Need-element-copy-out-heir Inv-loop μ-loop
-element-copy-out-heir c = search needs
+mul-key-holder : tie.Need-mul-key-holder Inv-loop μ-loop
+mul-key-holder c = search needs
+
+element-copy-out-key-holder : tie.Need-element-copy-out-key-holder Inv-loop μ-loop
+element-copy-out-key-holder c = search needs
+
+key-holder-requires : tie.Need-key-holder-requires Inv-loop μ-loop
+key-holder-requires c κs = search needs
 
 heir-requires : tie.Need-heir-requires Inv-loop μ-loop
 heir-requires c κs = search needs
@@ -44,12 +51,13 @@ loop-less c = search needs
 loop-again : tie.Need-loop-again Inv-loop μ-loop
 unfolding inheritedBy
 loop-again c =
-    let a = c .before .before .before .before .before .args in
-    let other = c .before .before .before .before .loop .other in (
+    let a = c .before .before .before .before .before .before .args in
+    let other = c .before .before .before .before .before .loop .other in
+    let named = c .before .before .key-holder .ensures ∙ ap keyHolder (sym (at-next (now (a .named)) other)) in (
       search needs,
       c .lesser .ensures
-          ∙ ap₂ min (c .before .before .before .before .loop .inv .1) (c .before .heir .ensures ∙ ap (λ (n : ℕ). heir n (a .rank) (other + 1)) (sym (at-next (now (a .named)) other)))
-          ∙ sym (least-more other (a .rank) (λ r. heir (at (now (a .named)) r) (a .rank) r)),
+          ∙ ap₂ min (c .before .before .before .before .before .loop .inv .1) (c .before .heir .ensures ∙ ap (λ (n : ℕ). heir n (a .rank) (other + 1)) named)
+          ∙ sym (least-more other (a .rank) (λ r. heir (keyHolder (at (now (a .named)) r)) (a .rank) r)),
     )
 
 returns : tie.Need-returns Inv-loop μ-loop
@@ -67,7 +75,9 @@ inherited-by-spec =
     loop-holds
     cast-i
     add-other
-    element-copy-out-heir
+    mul-key-holder
+    element-copy-out-key-holder
+    key-holder-requires
     heir-requires
     lesser-requires
     loop-less

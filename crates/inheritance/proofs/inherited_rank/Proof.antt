@@ -9,8 +9,8 @@ use borrow.Author.Needs.{needs}
 use Rattle.inheritance.proofs.inherited_rank.Statement.{statement}
 use Rattle.inheritance.proofs.inherited_rank.Tie as tie
 
-named-holders-requires : tie.Need-named-holders-requires
-named-holders-requires c κs = search needs
+named-keys-requires : tie.Need-named-keys-requires
+named-keys-requires c κs = search needs
 
 inherited-by-requires : tie.Need-inherited-by-requires
 inherited-by-requires c κs = search needs
@@ -19,7 +19,7 @@ returns : tie.Need-returns
 returns c =
     let a = c .before .before .before .args in
     c .inherited-by .ensures
-    ∙ inherited-by (c .before .before .named-holders .result) (waitsState (a .counts) (now (a .may-read)) (now (a .may-write)) (now (a .readers)) (now (a .writers)) (now (a .request))) (c .before .before .named-holders .ensures) (a .rank) (omega arith)
+    ∙ inherited-by (c .before .before .named-keys .result) (waitsState (a .counts) (now (a .may-read)) (now (a .may-write)) (now (a .readers)) (now (a .writers)) (now (a .request))) (c .before .before .named-keys .ensures) (a .rank) (omega arith)
 
 pub inherited-rank-spec : {M : Type 1} → statement M
-inherited-rank-spec = tie.close (tie.spec named-holders-requires inherited-by-requires returns)
+inherited-rank-spec = tie.close (tie.spec named-keys-requires inherited-by-requires returns)

@@ -3,14 +3,14 @@
 use mathlib.Core.Path.{sym, _∙_}
 use denote.Ref.{now}
 use Rattle.inheritance.specs.Inheriting.{NamedBy, running-by}
-use Rattle.rule.specs.Parts.{named-holder-parts}
+use Rattle.rule.specs.Parts.{named-waits-parts}
 use Rattle.inheritance.specs.Parts.{runState}
 use borrow.Author.Needs.{needs}
 use Rattle.inheritance.proofs.running_rank.Statement.{statement}
 use Rattle.inheritance.proofs.running_rank.Tie as tie
 
-named-holders-requires : tie.Need-named-holders-requires
-named-holders-requires c κs = search needs
+named-keys-requires : tie.Need-named-keys-requires
+named-keys-requires c κs = search needs
 
 running-by-requires : tie.Need-running-by-requires
 running-by-requires c κs = search needs
@@ -19,8 +19,8 @@ returns : tie.Need-returns
 returns c =
     let a = c .before .before .before .args in
     let s = runState (a .counts) (now (a .processor-of)) (a .active) (now (a .may-read)) (now (a .may-write)) (now (a .readers)) (now (a .writers)) (now (a .request)) in
-    let by : NamedBy (c .before .before .named-holders .result) s = (λ r p h. c .before .before .named-holders .ensures r p h ∙ sym (named-holder-parts s r)) in
-    c .running-by .ensures ∙ running-by (c .before .before .named-holders .result) s by (a .processor)
+    let by : NamedBy (c .before .before .named-keys .result) s = (λ r p h. c .before .before .named-keys .ensures r p h ∙ sym (named-waits-parts s r)) in
+    c .running-by .ensures ∙ running-by (c .before .before .named-keys .result) s by (a .processor)
 
 pub running-rank-spec : {M : Type 1} → statement M
-running-rank-spec = tie.close (tie.spec named-holders-requires running-by-requires returns)
+running-rank-spec = tie.close (tie.spec named-keys-requires running-by-requires returns)

@@ -6,7 +6,8 @@ use Prim.Native.Nat.{ℕ}
 use native.Mathlib.Omega.{arith}
 use Rattle.events.specs.declared.Answer.{Answer}
 use Rattle.events.specs.Answers.{paper}
-use Rattle.lines.specs.Lines.{behind, answerFields}
+use Rattle.decimals.specs.Fields.{behind}
+use Rattle.lines.specs.Lines.{answerFields}
 use Rattle.decimals.specs.Laid.{laid-then, laid-is}
 use borrow.Author.Needs.{needs}
 use Rattle.lines.proofs.lay.lay_answer.Statement.{statement}

@@ -4,7 +4,8 @@ use mathlib.Core.Path.{ap}
 use mathlib.Core.List.{[], _∷_}
 use Prim.Native.Nat.{ℕ}
 use native.Mathlib.Nat.{le-refl}
-use Rattle.lines.specs.Lines.{space, eventLine}
+use Rattle.decimals.specs.Fields.{space}
+use Rattle.lines.specs.Lines.{eventLine}
 use Rattle.decimals.specs.Laid.{laid-then, laid-is}
 use borrow.Author.Needs.{needs}
 use Rattle.lines.proofs.lay.lay_event.Statement.{statement}

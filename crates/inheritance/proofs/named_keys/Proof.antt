@@ -1,5 +1,5 @@
--- `inheritance::named_holders` meets its contract. The loop's invariant: the element of each rank passed is the rank that it names. A turn stores one more, and
--- the number of ranks left falls.
+-- `inheritance::named_keys` meets its contract. The loop's invariant: the element of each rank passed is the key of the lock that it names. A turn stores one
+-- more, and the number of ranks left falls.
 -- Assumes nothing.
 use mathlib.Core.Path.{_≡_, sym, ap, _∙_}
 use Prim.Native.Nat.{ℕ, _≤_, _-_, _+_}
@@ -8,18 +8,18 @@ use lib.ListN.{length}
 use denote.Ref.{now}
 use Rattle.basics.specs.Arrays.{at, at-next, stored}
 use Rattle.state.specs.State.{mostJobs}
-use Rattle.weights.specs.Keys.{keyHolder, lowestKey}
-use Rattle.rule.specs.Granting.{namedKeyOf, namedKey, namedHolder}
+use Rattle.weights.specs.Keys.{lowestKey}
+use Rattle.rule.specs.Granting.{namedKeyOf, namedKey}
 use Rattle.weights.specs.Parts.{locksState}
 use Rattle.rule.specs.Parts.{waitsState, named-key-parts}
 use borrow.Author.Needs.{needs}
-use Rattle.inheritance.proofs.named_holders.Statement.{statement}
-use Rattle.inheritance.proofs.named_holders.Tie as tie
+use Rattle.inheritance.proofs.named_keys.Statement.{statement}
+use Rattle.inheritance.proofs.named_keys.Tie as tie
 
 abbrev Inv-loop : tie.InvT-loop
 Inv-loop counts may-read may-write readers writers request jobs named₀ rank₀ named rank =
     (rank ≤ jobs) × (length named ≡ mostJobs)
-    × ((j : ℕ) → 1 ≤ j → j ≤ rank → at named j ≡ namedHolder (waitsState counts may-read may-write readers writers request) j)
+    × ((j : ℕ) → 1 ≤ j → j ≤ rank → at named j ≡ namedKey (waitsState counts may-read may-write readers writers request) j)
 
 abbrev μ-loop : tie.MeasureT-loop
 μ-loop counts may-read may-write readers writers request jobs named₀ rank₀ named rank = jobs - rank
@@ -42,8 +42,8 @@ element-copy-out-named-key c = search needs
 named-key-requires : tie.Need-named-key-requires Inv-loop μ-loop
 named-key-requires c κs = search needs
 
-key-holder-requires : tie.Need-key-holder-requires Inv-loop μ-loop
-key-holder-requires c κs = search needs
+mul-named : tie.Need-mul-named Inv-loop μ-loop
+mul-named c = search needs
 
 array-write-named : tie.Need-array-write-named Inv-loop μ-loop
 array-write-named c = search needs
@@ -53,23 +53,23 @@ loop-less c = search needs
 
 loop-again : tie.Need-loop-again Inv-loop μ-loop
 loop-again c =
-    let a = c .before .before .before .before .before .args in
-    let rank = c .before .before .before .before .loop .rank in
+    let a = c .before .before .before .before .args in
+    let rank = c .before .before .before .loop .rank in
     let s = waitsState (a .counts) (now (a .may-read)) (now (a .may-write)) (now (a .readers)) (now (a .writers)) (now (a .request)) in
     let key = lowestKey (locksState (a .counts) (now (a .may-read)) (now (a .may-write)) (now (a .readers)) (now (a .writers))) (rank + 1) in
-    let named : c .before .named-key .result ≡ namedKey s (rank + 1) =
-    c .before .named-key .ensures ∙ ap (λ (q : ℕ). namedKeyOf q key (rank + 1)) (sym (at-next (now (a .request)) rank)) ∙ sym (named-key-parts s (rank + 1))
+    let named : c .named-key .result ≡ namedKey s (rank + 1) =
+    (c .named-key .ensures) ∙ ap (λ (q : ℕ). namedKeyOf q key (rank + 1)) (sym (at-next (now (a .request)) rank)) ∙ sym (named-key-parts s (rank + 1))
     in (
       search needs,
       search needs,
-      stored (c .before .before .before .before .loop .named) rank (c .key-holder .result) (namedHolder s) (omega (arith, c .before .before .before .before .loop .inv .1)) (c .key-holder .ensures ∙ ap keyHolder named) (c .before .before .before .before .loop .inv .2),
+      stored (c .before .before .before .loop .named) rank (c .named-key .result) (namedKey s) (omega (arith, c .before .before .before .loop .inv .1)) named (c .before .before .before .loop .inv .2),
     )
 
 returns : tie.Need-returns Inv-loop μ-loop
 returns c = λ j p h. c .before .loop .inv .2 j p (omega arith)
 
-pub named-holders-spec : {M : Type 1} → statement M
-named-holders-spec =
+pub named-keys-spec : {M : Type 1} → statement M
+named-keys-spec =
     tie.close
     (tie.spec
     Inv-loop
@@ -80,7 +80,7 @@ named-holders-spec =
     mul-named-key
     element-copy-out-named-key
     named-key-requires
-    key-holder-requires
+    mul-named
     array-write-named
     loop-less
     loop-again

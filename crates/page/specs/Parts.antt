@@ -1,0 +1,64 @@
+-- The page by what the code has worked out: the key of the lock that each rank names, and the rank that each processor runs.
+-- Then that it is the page of the state with these.
+-- Assumes nothing.
+use mathlib.Core.Path.{_≡_, refl, sym, ap, _∙_}
+use mathlib.Core.Bool.{Bool, true, false, not}
+use mathlib.Core.List.{List, []}
+use Prim.Native.Nat.{ℕ, _≤_, _<_}
+use lib.Dec.{eqb}
+use lib.ListN.{getD}
+use Rattle.basics.specs.Arrays.{at}
+use Rattle.basics.specs.Choice.{if_then_else_}
+use Rattle.basics.specs.Loops.{joined}
+use Rattle.basics.specs.JoinedLaws.{joined-same}
+use Rattle.ranks.specs.Ranks.{member}
+use Rattle.state.specs.declared.Counts.{Counts}
+use Rattle.state.specs.declared.State.{State}
+use Rattle.state.specs.State.{processorOf, isActive, isWaiting}
+use Rattle.weights.specs.Weights.{weight}
+use Rattle.weights.specs.Keys.{keyHolder, keyObject, othersKey, objectKey, lowestKeyBy}
+use Rattle.rule.specs.Granting.{namedKey}
+use Rattle.inheritance.specs.Running.{inheritedRank, runningRank}
+use Rattle.inheritance.specs.Inheriting.{NamedBy, inheritedBy, runningBy, inherited-by, running-by}
+use Rattle.inheritance.specs.Parts.{runOf}
+use Rattle.page.specs.Page.{letterOf, lineOf, pageLine, page}
+
+-- each job's processor is one of the table's
+abbrev pub ProcessorsFit : Counts → List ℕ → Type 0
+ProcessorsFit counts processorOf = (r : ℕ) → 1 ≤ r → r ≤ counts .jobs → at processorOf r < counts .processors
+
+-- each processor's element is the rank that it runs
+abbrev pub RunsBy : List ℕ → Counts → List ℕ → List ℕ → ℕ → List ℕ → Type 0
+RunsBy running counts named processorOf active request = (p : ℕ) → p < counts .processors → getD running p 0 ≡ runningBy (counts .jobs) named processorOf active request p
+
+-- the line of rank r
+unfoldable pub lineBy : (jobs : ℕ) (named running processorOf request : List ℕ) → ℕ → List ℕ
+lineBy jobs named running processorOf request r =
+    lineOf r (at processorOf r) (letterOf (getD running (at processorOf r) 0) (not (eqb (at request r) 0)) r) (inheritedBy jobs named r)
+    (keyHolder (at named r)) (keyObject (at named r))
+
+-- the lines of the active ranks up to n
+unfoldable pub linesBy : (n jobs : ℕ) (named running processorOf : List ℕ) (active : ℕ) (request : List ℕ) → List ℕ
+linesBy n jobs named running processorOf active request =
+    joined n (λ r. if member active r then lineBy jobs named running processorOf request r else [])
+
+-- ---- of a state with these named locks and running ranks
+
+module _ (s : State) (named running : List ℕ) (by : NamedBy named s) (runs : RunsBy running (s .counts) named (s .«processor_of») (s .active) (s .request))
+    (fit : ProcessorsFit (s .counts) (s .«processor_of»)) where
+  line-by : (r : ℕ) → 1 ≤ r → r ≤ s .counts .jobs → lineBy (s .counts .jobs) named running (s .«processor_of») (s .request) r ≡ pageLine s r
+  unfolding lineBy
+  line-by r a b =
+      let running-is = runs (processorOf s r) (fit r a b) ∙ running-by named s by (processorOf s r) in
+      λ i. lineOf r (processorOf s r) (letterOf (running-is i) (isWaiting s r) r) (inherited-by named s by r a i) (keyHolder (by r a b i)) (keyObject (by r a b i))
+
+  pub lines-by : linesBy (s .counts .jobs) (s .counts .jobs) named running (s .«processor_of») (s .active) (s .request) ≡ page s
+  unfolding linesBy page
+  lines-by =
+      joined-same (s .counts .jobs) _ (λ r. if isActive s r then pageLine s r else [])
+      (λ r a b. ap (λ (text : List ℕ). if isActive s r then text else []) (line-by r a b))
+
+-- the page is that of the state's parts
+pub page-parts : (s : State) → page s ≡ page (runOf s)
+unfolding lowestKeyBy objectKey othersKey weight namedKey inheritedRank runningRank page
+page-parts s = refl

@@ -1,0 +1,185 @@
+// The lines of the page, each laid into its own part of a lent buffer.
+ghost use mathlib.Core.Path.{_≡_};
+ghost use mathlib.Core.Bool.{not};
+ghost use mathlib.Core.List.{[], _∷_};
+ghost use Prim.Native.Nat.{_+_, _≤_, _<_};
+ghost use lib.Dec.{eqb};
+ghost use lib.ListN.{length};
+ghost use Rattle.basics.specs.Arrays.{at};
+ghost use Rattle.state.specs.State.{mostJobs, mostProcessors};
+ghost use Rattle.state.specs.Clauses.{Within};
+ghost use Rattle.decimals.specs.Laid.{Laid, atFront};
+ghost use Rattle.decimals.specs.Decimal.{decimal};
+ghost use Rattle.decimals.specs.Fields.{space, rightAligned};
+ghost use Rattle.page.specs.Page.{letterOf, namedField, lineOf};
+ghost use Rattle.page.specs.Parts.{RunsBy, ProcessorsFit, lineBy, linesBy};
+use decimals::lay_aligned;
+use decimals::lay_byte;
+use decimals::lay_three;
+use inheritance::JobKeys;
+use inheritance::inherited_by;
+use inheritance::running_by;
+use ranks::RankSet;
+use ranks::contains;
+use state::Counts;
+use state::JobProcessors;
+use state::JobRequests;
+use weights::key_holder;
+use weights::key_object;
+
+// A rank for each processor.
+pub type ProcessorRanks = [u8; 8];
+
+// For each processor the rank that it runs, by the lock that each rank names; 0 where it is idle.
+pub fn running_ranks<'a>(
+    counts: Counts,
+    named: &'a JobKeys,
+    processor_of: &'a JobProcessors,
+    active: RankSet,
+    request: &'a JobRequests,
+) -> ProcessorRanks
+    requires { ⌜ (counts .jobs ≤ mostJobs) × (counts .processors ≤ mostProcessors) ⌝ }
+    ensures { λ r. ⌜ RunsBy r counts (now (named .entry)) (now («processor_of» .entry)) active (now (request .entry)) ⌝ }
+{
+    let processors = counts.processors;
+    let mut running: ProcessorRanks = [0; 8];
+    let mut processor: u8 = 0;
+    while processor < processors {
+        let i = processor as usize;
+        running[i] = running_by(
+            counts.jobs,
+            named,
+            processor_of,
+            active,
+            request,
+            processor,
+        );
+        processor += 1;
+    }
+    running
+}
+
+// The letter of the rank, with its request, on a processor that runs this rank: R runs, W waits, I is ready.
+fn state_letter(runs: u8, request: u16, rank: u8) -> u8
+    ensures { λ r. ⌜ r ≡ letterOf runs (not (eqb request 0)) rank ⌝ }
+{
+    if runs == rank {
+        b'R'
+    } else if request != 0 {
+        b'W'
+    } else {
+        b'I'
+    }
+}
+
+// A space and a letter.
+fn lay_letter(buf: &mut [u8], at: usize, letter: u8) -> usize
+    requires { ⌜ at + 2 ≤ length (now buf) ⌝ }
+    ensures { λ r. ⌜ Laid (now (buf .entry)) (now (buf .exit)) at r 2 (space ∷ letter ∷ []) ⌝ }
+{
+    let end = lay_byte(buf, at, b' ');
+    lay_byte(buf, end, letter)
+}
+
+// A space and a number in three bytes.
+fn lay_field(buf: &mut [u8], at: usize, number: u8) -> usize
+    requires { ⌜ at + 4 ≤ length (now buf) ⌝ }
+    ensures { λ r. ⌜ Laid (now (buf .entry)) (now (buf .exit)) at r 4 (space ∷ rightAligned 3 (decimal number)) ⌝ }
+{
+    let end = lay_byte(buf, at, b' ');
+    lay_aligned(buf, end, number)
+}
+
+// The same of a number of the lock that the holder has; blank where the holder is 0.
+fn lay_named(buf: &mut [u8], at: usize, holder: u8, number: u8) -> usize
+    requires { ⌜ at + 4 ≤ length (now buf) ⌝ }
+    ensures { λ r. ⌜ Laid (now (buf .entry)) (now (buf .exit)) at r 4 (space ∷ rightAligned 3 (namedField holder number)) ⌝ }
+{
+    if holder == 0 {
+        let end = lay_byte(buf, at, b' ');
+        return lay_three(buf, end, b' ', b' ', b' ');
+    }
+    lay_field(buf, at, number)
+}
+
+// A line of these fields, which fills the lent part. The processor in three bytes is a space and the processor in two.
+fn lay_line(
+    line: &mut [u8],
+    rank: u8,
+    processor: u8,
+    letter: u8,
+    inherited: u8,
+    holder: u8,
+    object: u8,
+)
+    requires { ⌜ (length (now line) ≡ 21) × (processor < 100) ⌝ }
+    ensures { λ _. ⌜ now (line .exit) ≡ lineOf rank processor letter inherited holder object ⌝ }
+{
+    let by = lay_aligned(line, 0, rank);
+    let on = lay_aligned(line, by, processor);
+    let then = lay_letter(line, on, letter);
+    let own = lay_field(line, then, inherited);
+    let named = lay_named(line, own, holder, holder);
+    let last = lay_named(line, named, holder, object);
+    lay_byte(line, last, b'\n');
+}
+
+// The rank's line, which fills the lent part.
+fn lay_rank<'a>(
+    line: &mut [u8],
+    jobs: u8,
+    named: &'a JobKeys,
+    running: &'a ProcessorRanks,
+    processor_of: &'a JobProcessors,
+    request: &'a JobRequests,
+    rank: u8,
+)
+    requires { ⌜ (length (now line) ≡ 21) × (1 ≤ rank) × (rank ≤ mostJobs) × (jobs ≤ mostJobs) × (at (now «processor_of») rank < mostProcessors) ⌝ }
+    ensures { λ _. ⌜ now (line .exit) ≡ lineBy jobs (now (named .entry)) (now (running .entry)) (now («processor_of» .entry)) (now (request .entry)) rank ⌝ }
+{
+    let i = (rank - 1) as usize;
+    let processor = processor_of[i];
+    let letter = state_letter(running[processor as usize], request[i], rank);
+    let inherited = inherited_by(jobs, named, rank);
+    let key = named[i];
+    let holder = key_holder(key);
+    let object = key_object(key);
+    lay_line(line, rank, processor, letter, inherited, holder, object);
+}
+
+// The lines of the active ranks, one behind the other from the buffer's front on; the bytes behind them stay.
+pub fn lay_lines<'a>(
+    buf: &mut [u8],
+    counts: Counts,
+    named: &'a JobKeys,
+    running: &'a ProcessorRanks,
+    processor_of: &'a JobProcessors,
+    active: RankSet,
+    request: &'a JobRequests,
+)
+    requires { ⌜ Within counts × ProcessorsFit counts (now «processor_of»)
+        × (length (linesBy (counts .jobs) (counts .jobs) (now named) (now running) (now «processor_of») active (now request)) ≤ length (now buf)) ⌝ }
+    ensures { λ _. ⌜ now (buf .exit) ≡ atFront (linesBy (counts .jobs) (counts .jobs) (now (named .entry)) (now (running .entry)) (now («processor_of» .entry)) active
+        (now (request .entry))) (now (buf .entry)) ⌝ }
+{
+    let jobs = counts.jobs;
+    let mut end: usize = 0;
+    let mut rank: u8 = 0;
+    while rank < jobs {
+        rank += 1;
+        if !contains(active, rank) {
+            continue;
+        }
+        let start = end;
+        end += 21;
+        lay_rank(
+            &mut buf[start..end],
+            jobs,
+            named,
+            running,
+            processor_of,
+            request,
+            rank,
+        );
+    }
+}
