@@ -2,11 +2,11 @@
 -- Assumes nothing.
 use Prim.Native.Nat.{ℕ, _+_, _≤_}
 use mathlib.Core.Path.{_≡_, sym, ap, ap₂, _∙_}
-use mathlib.Core.List.{List, _++_}
+use mathlib.Core.List.{List, _++_, append-assoc}
 use native.Mathlib.Nat.{zero-add}
 use native.Mathlib.Omega.{arith}
-use lib.ListN.{length, take, drop, length-append}
-use lib.Seq.{sets, sets-eq, length-sets, take-at}
+use lib.ListN.{length, take, drop, length-append, length-drop}
+use lib.Seq.{sets, sets-eq, length-sets, take-at, take-length, drop-at, drop-drop}
 use Rattle.basics.specs.Stores.{sets-append}
 
 -- a buffer with a text at its front, and the bytes behind as they were
@@ -45,3 +45,23 @@ pub laid-front : {a b : List ℕ} {j m : ℕ} {xs : List ℕ} → Laid a b 0 j m
 laid-front {a} {b} {j} {m} {xs} p h =
     let stops : j ≡ length xs = p .stops ∙ zero-add (length xs) in
     ap (take j) (p .stored ∙ sets-eq xs a 0 (omega arith)) ∙ take-at xs (drop (0 + length xs) a) j (sym stops)
+
+-- a text that fills the buffer is all there is
+pub laid-whole : {a b : List ℕ} {j m : ℕ} {xs : List ℕ} → Laid a b 0 j m xs → length xs ≡ length a → b ≡ xs
+laid-whole {a} {b} {j} {m} {xs} p e =
+    let all : j ≡ length b = p .stops ∙ zero-add (length xs) ∙ e ∙ sym (laid-length p) in
+    sym (take-length b) ∙ ap (λ (n : ℕ). take n b) (sym all) ∙ laid-front p (omega arith)
+
+-- a text at the front, and another into the part behind it
+pub front-more : (xs ys buffer : List ℕ) (i k : ℕ) → length xs ≡ i → length ys ≡ k
+    → take i (atFront xs buffer) ++ (ys ++ drop k (drop i (atFront xs buffer))) ≡ atFront (xs ++ ys) buffer
+front-more xs ys buffer i k e f =
+    let rest = drop (length xs) buffer in
+    let both : length xs + k ≡ length (xs ++ ys) = omega (arith, length-append xs ys) in
+    ap₂ (λ (front behind : List ℕ). front ++ (ys ++ drop k behind)) (take-at xs rest i e) (drop-at xs rest i e)
+    ∙ ap (λ (l : List ℕ). xs ++ (ys ++ l)) (drop-drop k (length xs) buffer ∙ ap (λ (n : ℕ). drop n buffer) both)
+    ∙ sym (append-assoc xs ys (drop (length (xs ++ ys)) buffer))
+
+-- where the text has room the buffer keeps its length
+pub front-length : (xs buffer : List ℕ) → length xs ≤ length buffer → length (atFront xs buffer) ≡ length buffer
+front-length xs buffer h = omega (arith, length-append xs (drop (length xs) buffer), length-drop (length xs) buffer)

@@ -4,7 +4,7 @@ ghost use mathlib.Core.List.{[], _∷_};
 ghost use Prim.Native.Nat.{_+_, _≤_, _<_};
 ghost use lib.ListN.{length};
 ghost use Rattle.decimals.specs.Decimal.{decimal, threeDigits};
-ghost use Rattle.decimals.specs.Fields.{rightAligned, digitOrSpace};
+ghost use Rattle.decimals.specs.Fields.{space, rightAligned, digitOrSpace};
 ghost use Rattle.decimals.specs.Laid.{Laid};
 
 // A byte laid at the index.
@@ -24,6 +24,15 @@ pub fn lay_three(buf: &mut [u8], at: usize, a: u8, b: u8, c: u8) -> usize
     let second = lay_byte(buf, at, a);
     let third = lay_byte(buf, second, b);
     lay_byte(buf, third, c)
+}
+
+// A space and a letter.
+pub fn lay_letter(buf: &mut [u8], at: usize, letter: u8) -> usize
+    requires { ⌜ at + 2 ≤ length (now buf) ⌝ }
+    ensures { λ r. ⌜ Laid (now (buf .entry)) (now (buf .exit)) at r 2 (space ∷ letter ∷ []) ⌝ }
+{
+    let end = lay_byte(buf, at, b' ');
+    lay_byte(buf, end, letter)
 }
 
 // A number's decimal digits laid from the index on, without leading zeros.

@@ -10,19 +10,11 @@ ghost use Rattle.decimals.specs.Laid.{Laid};
 ghost use Rattle.events.specs.Answers.{paper};
 use decimals::lay_byte;
 use decimals::lay_byte_number;
+use decimals::lay_letter;
 use decimals::lay_number;
 use decimals::lay_three;
 use events::Answer;
 use state::Counts;
-
-// A space and a letter.
-pub fn lay_letter(buf: &mut [u8], at: usize, letter: u8) -> usize
-    requires { ⌜ at + 2 ≤ length (now buf) ⌝ }
-    ensures { λ r. ⌜ Laid (now (buf .entry)) (now (buf .exit)) at r 2 (space ∷ letter ∷ []) ⌝ }
-{
-    let end = lay_byte(buf, at, b' ');
-    lay_byte(buf, end, letter)
-}
 
 // A space and a number.
 pub fn lay_field(buf: &mut [u8], at: usize, number: u8) -> usize

@@ -1,13 +1,13 @@
 -- Laws of a line: how long it and its fields are, and what stands in its columns.
 -- Assumes nothing.
-use mathlib.Core.Path.{_≡_, ap, _∙_}
+use mathlib.Core.Path.{_≡_, refl, ap, _∙_}
 use mathlib.Core.Bool.{Bool, true, false}
 use mathlib.Core.List.{List, [], _∷_, _++_}
-use Prim.Native.Nat.{ℕ, zero, suc, _+_, _≤_, _<_}
+use Prim.Native.Nat.{ℕ, suc, _+_, _<_}
 use native.Mathlib.Omega.{arith}
 use lib.Dec.{eqb}
 use lib.ListN.{length, take, drop, length-append}
-use lib.Seq.{take-at}
+use lib.Seq.{take-at, drop-append-add}
 use Rattle.basics.specs.Choice.{if_then_else_}
 use Rattle.decimals.specs.Decimal.{decimal, decimal-length, byte-length}
 use Rattle.decimals.specs.Fields.{rightAligned, aligned-length}
@@ -22,10 +22,10 @@ column text start width = take width (drop start text)
 pub column-front : (xs ys : List ℕ) (n : ℕ) → length xs ≡ n → column (xs ++ ys) 0 n ≡ xs
 column-front xs ys n e = take-at xs ys n e
 
-pub column-behind : (xs ys : List ℕ) (n k width : ℕ) → length xs ≡ n → column (xs ++ ys) (n + k) width ≡ column ys k width
-column-behind [] ys n k width e = let none : n + k ≡ k = omega arith in ap (λ (i : ℕ). column ys i width) none
-column-behind (x ∷ xs) ys zero k width e = absurd (omega arith)
-column-behind (x ∷ xs) ys (suc n) k width e = column-behind xs ys n k width (omega arith)
+pub column-behind : (xs ys : List ℕ) (n k i width : ℕ) → length xs ≡ n → i ≡ n + k → column (xs ++ ys) i width ≡ column ys k width
+column-behind xs ys n k i width long e =
+    let place : i ≡ length xs + k = omega arith in
+    ap (λ (j : ℕ). column (xs ++ ys) j width) place ∙ ap (take width) (drop-append-add xs ys k)
 
 -- ---- a line
 
@@ -103,35 +103,38 @@ module _ (rank processor letter inherited holder object : ℕ) (fit : FitFields 
   whole = lineOf rank processor letter inherited holder object
 
   -- what stands k bytes behind a field's space
-  behind-rank : (k width : ℕ) → column whole (4 + k) width ≡ column from-processor k width
+  behind-rank : (k i width : ℕ) → i ≡ 4 + k → column whole i width ≡ column from-processor k width
   unfolding lineOf
-  behind-rank k width = column-behind of-rank (32 ∷ from-processor) 3 (suc k) width long-rank
+  behind-rank k i width e = column-behind of-rank (32 ∷ from-processor) 3 (suc k) i width long-rank (omega arith)
 
-  behind-letter : (k width : ℕ) → column whole (9 + k) width ≡ column from-inherited k width
-  behind-letter k width =
-      behind-rank (5 + k) width ∙ column-behind of-processor (32 ∷ letter ∷ 32 ∷ from-inherited) 2 (3 + k) width long-processor
+  behind-letter : (k i width : ℕ) → i ≡ 9 + k → column whole i width ≡ column from-inherited k width
+  behind-letter k i width e =
+      behind-rank (5 + k) i width (omega arith)
+      ∙ column-behind of-processor (32 ∷ letter ∷ 32 ∷ from-inherited) 2 (suc (suc (suc k))) (5 + k) width long-processor (omega arith)
 
-  behind-inherited : (k width : ℕ) → column whole (13 + k) width ≡ column from-holder k width
-  behind-inherited k width = behind-letter (4 + k) width ∙ column-behind of-inherited (32 ∷ from-holder) 3 (suc k) width long-inherited
+  behind-inherited : (k i width : ℕ) → i ≡ 13 + k → column whole i width ≡ column from-holder k width
+  behind-inherited k i width e =
+      behind-letter (4 + k) i width (omega arith) ∙ column-behind of-inherited (32 ∷ from-holder) 3 (suc k) (4 + k) width long-inherited (omega arith)
 
-  behind-holder : (k width : ℕ) → column whole (17 + k) width ≡ column from-object k width
-  behind-holder k width = behind-inherited (4 + k) width ∙ column-behind of-holder (32 ∷ from-object) 3 (suc k) width long-holder
+  behind-holder : (k i width : ℕ) → i ≡ 17 + k → column whole i width ≡ column from-object k width
+  behind-holder k i width e =
+      behind-inherited (4 + k) i width (omega arith) ∙ column-behind of-holder (32 ∷ from-object) 3 (suc k) (4 + k) width long-holder (omega arith)
 
   pub rank-column : column whole 0 3 ≡ of-rank
   unfolding lineOf
   rank-column = column-front of-rank (32 ∷ from-processor) 3 long-rank
 
   pub processor-column : column whole 4 2 ≡ of-processor
-  processor-column = behind-rank 0 2 ∙ column-front of-processor (32 ∷ letter ∷ 32 ∷ from-inherited) 2 long-processor
+  processor-column = behind-rank 0 4 2 refl ∙ column-front of-processor (32 ∷ letter ∷ 32 ∷ from-inherited) 2 long-processor
 
   pub letter-column : column whole 7 1 ≡ letter ∷ []
-  letter-column = behind-rank 3 1 ∙ column-behind of-processor (32 ∷ letter ∷ 32 ∷ from-inherited) 2 1 1 long-processor
+  letter-column = behind-rank 3 7 1 refl ∙ column-behind of-processor (32 ∷ letter ∷ 32 ∷ from-inherited) 2 1 3 1 long-processor refl
 
   pub inherited-column : column whole 9 3 ≡ of-inherited
-  inherited-column = behind-letter 0 3 ∙ column-front of-inherited (32 ∷ from-holder) 3 long-inherited
+  inherited-column = behind-letter 0 9 3 refl ∙ column-front of-inherited (32 ∷ from-holder) 3 long-inherited
 
   pub holder-column : column whole 13 3 ≡ of-holder
-  holder-column = behind-inherited 0 3 ∙ column-front of-holder (32 ∷ from-object) 3 long-holder
+  holder-column = behind-inherited 0 13 3 refl ∙ column-front of-holder (32 ∷ from-object) 3 long-holder
 
   pub object-column : column whole 17 3 ≡ of-object
-  object-column = behind-holder 0 3 ∙ column-front of-object (10 ∷ []) 3 long-object
+  object-column = behind-holder 0 17 3 refl ∙ column-front of-object (10 ∷ []) 3 long-object

@@ -88,11 +88,11 @@ module _ (s : State) (sized : Sized s) (well : wellFormed s ≡ true) (r : ℕ) 
           let line = pageLine s (suc q) in
           let whole : page s ≡ above ++ (line ++ split .0) =
           split .1 ∙ ap (λ (b : Bool). (above ++ (if b then line else [])) ++ split .0) a ∙ append-assoc above line (split .0) in
-          let place : 21 * sum q (λ i. oneIf (isActive s i)) ≡ 21 * sum q (λ i. oneIf (isActive s i)) + 0 = omega arith in
-          ap₂ (λ (text : List ℕ) (i : ℕ). column text i 21) whole place
-          ∙ column-behind above (line ++ split .0) _ 0 21 (lines-length s F q (omega arith))
+          let place = 21 * sum q (λ i. oneIf (isActive s i)) in
+          let back : suc q - 1 ≡ q = omega arith in
+          ap₂ (λ (text : List ℕ) (n : ℕ). column text (21 * sum n (λ i. oneIf (isActive s i))) 21) whole back
+          ∙ column-behind above (line ++ split .0) place 0 place 21 (lines-length s F q (omega arith)) (sym (add-zero place))
           ∙ column-front line (split .0) 21 (state-line-length s F (suc q) low high)
-
 
   pub line-shown : Shown s r (lineOnPage s r)
   unfolding askRunning askInheritedRank askNamedLock jobRefusal processorRefusal
@@ -177,7 +177,7 @@ once (suc n) x low high = go (once n x low) (eq-or-lt-of-le high)
 pub one-runs : (s : State) (p : ℕ) → wellFormed s ≡ true → p < s .counts .processors
     → (runs : ℕ) × (rankReply (askRunning s p) ≡ told (runs ∷ [])) × (runningLines s p ≡ (if eqb runs 0 then 0 else 1))
 unfolding askRunning processorRefusal
-one-runs s p well in-table = (runningRank s p, simp (well, lt-ltb p (s .counts .processors) in-table), lines ∙ count (runningRank s p) refl)
+one-runs s p well h = (runningRank s p, simp (well, lt-ltb p (s .counts .processors) h), lines ∙ count (runningRank s p) refl)
   where
     small : s .counts .jobs ≤ mostJobs
     small = counts-within (s .counts) (clauses s well .counts) .jobs .1
@@ -187,4 +187,4 @@ one-runs s p well in-table = (runningRank s p, simp (well, lt-ltb p (s .counts .
 
     count : (x : ℕ) → runningRank s p ≡ x → sum (s .counts .jobs) (λ r. oneIf (eqb x r)) ≡ (if eqb x 0 then 0 else 1)
     count zero e = never-zero (s .counts .jobs)
-    count (suc x) e = once (s .counts .jobs) (suc x) (omega arith) (running-ready s p (suc x) small (omega arith) e .in-table)
+    count (suc x) e = once (s .counts .jobs) (suc x) (omega arith) (running-ready s p (suc x) small (omega arith) e .in-table) ∙ sym (simp (ne-eqb (suc x) 0 (λ z. omega arith)))

@@ -3,25 +3,27 @@
 -- Assumes nothing.
 use mathlib.Core.Path.{_≡_, refl, sym, ap, _∙_}
 use mathlib.Core.Bool.{Bool, true, false, not}
-use mathlib.Core.List.{List, []}
-use Prim.Native.Nat.{ℕ, _≤_, _<_}
+use mathlib.Core.List.{List, [], _++_, append-nil}
+use Prim.Native.Nat.{ℕ, _+_, _≤_, _<_}
+use native.Mathlib.Omega.{arith}
 use lib.Dec.{eqb}
-use lib.ListN.{getD}
+use lib.ListN.{length, getD, length-append}
 use Rattle.basics.specs.Arrays.{at}
 use Rattle.basics.specs.Choice.{if_then_else_}
-use Rattle.basics.specs.Loops.{joined}
-use Rattle.basics.specs.JoinedLaws.{joined-same}
+use Rattle.basics.specs.Loops.{joined, joined-more, least-top}
+use Rattle.basics.specs.JoinedLaws.{joined-same, joined-grows}
 use Rattle.ranks.specs.Ranks.{member}
 use Rattle.state.specs.declared.Counts.{Counts}
 use Rattle.state.specs.declared.State.{State}
-use Rattle.state.specs.State.{processorOf, isActive, isWaiting}
+use Rattle.state.specs.State.{mostJobs, mostProcessors, processorOf, isActive, isWaiting}
 use Rattle.weights.specs.Weights.{weight}
 use Rattle.weights.specs.Keys.{keyHolder, keyObject, othersKey, objectKey, lowestKeyBy}
 use Rattle.rule.specs.Granting.{namedKey}
 use Rattle.inheritance.specs.Running.{inheritedRank, runningRank}
-use Rattle.inheritance.specs.Inheriting.{NamedBy, inheritedBy, runningBy, inherited-by, running-by}
+use Rattle.inheritance.specs.Inheriting.{NamedBy, heir, inheritedBy, runningBy, inherited-by, running-by}
 use Rattle.inheritance.specs.Parts.{runOf}
 use Rattle.page.specs.Page.{letterOf, lineOf, pageLine, page}
+use Rattle.page.specs.LineLaws.{line-length}
 
 -- each job's processor is one of the table's
 abbrev pub ProcessorsFit : Counts → List ℕ → Type 0
@@ -41,6 +43,43 @@ lineBy jobs named running processorOf request r =
 unfoldable pub linesBy : (n jobs : ℕ) (named running processorOf : List ℕ) (active : ℕ) (request : List ℕ) → List ℕ
 linesBy n jobs named running processorOf active request =
     joined n (λ r. if member active r then lineBy jobs named running processorOf request r else [])
+
+module _ (jobs : ℕ) (named running processorOf : List ℕ) (active : ℕ) (request : List ℕ) where
+  abbrev lines : ℕ → List ℕ
+  lines n = linesBy n jobs named running processorOf active request
+
+  -- the line of an active rank fills 21 bytes
+  pub line-by-length : (r : ℕ) → r ≤ mostJobs → at processorOf r < mostProcessors → length (lineBy jobs named running processorOf request r) ≡ 21
+  unfolding lineBy inheritedBy
+  line-by-length r a b =
+      let inherited = least-top jobs r (λ i. heir (keyHolder (at named i)) r i) in
+      line-length _ _ _ _ _ _
+      (record {
+        rank-fits = omega arith;
+        processor-fits = omega arith;
+        inherited-fits = omega arith;
+        holder-fits = omega arith;
+        object-fits = omega arith;
+      })
+
+  -- one rank more, active or not
+  pub lines-more : (n : ℕ) → member active (n + 1) ≡ true → lines (n + 1) ≡ lines n ++ lineBy jobs named running processorOf request (n + 1)
+  unfolding linesBy
+  lines-more n e =
+      joined-more n _ ∙ ap (λ (b : Bool). lines n ++ (if b then lineBy jobs named running processorOf request (n + 1) else [])) e
+
+  pub lines-same : (n : ℕ) → member active (n + 1) ≡ false → lines (n + 1) ≡ lines n
+  unfolding linesBy
+  lines-same n e =
+      joined-more n _ ∙ ap (λ (b : Bool). lines n ++ (if b then lineBy jobs named running processorOf request (n + 1) else [])) e ∙ append-nil (lines n)
+
+  -- where all lines have room, the next one has
+  pub room-for-line : (n room : ℕ) → n < jobs → jobs ≤ mostJobs → at processorOf (n + 1) < mostProcessors → member active (n + 1) ≡ true → length (lines jobs) ≤ room
+      → length (lines n) + 21 ≤ room
+  unfolding linesBy
+  room-for-line n room h small p e fits =
+      let text = lineBy jobs named running processorOf request (n + 1) in
+      omega (arith, ap length (lines-more n e) ∙ length-append (lines n) text, line-by-length (n + 1) (omega arith) p, joined-grows (n + 1) jobs (λ r. if member active r then lineBy jobs named running processorOf request r else []) (omega arith))
 
 -- ---- of a state with these named locks and running ranks
 

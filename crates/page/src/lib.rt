@@ -118,13 +118,5 @@ fn lay_page<'a>(
 {
     let named = named_keys(counts, may_read, may_write, readers, writers, request);
     let running = running_ranks(counts, &named, processor_of, active, request);
-    lay_lines(
-        buf,
-        counts,
-        &named,
-        &running,
-        processor_of,
-        active,
-        request,
-    );
+    lay_lines(buf, counts, &named, &running, processor_of, active, request);
 }

@@ -15,6 +15,7 @@ ghost use Rattle.page.specs.Page.{letterOf, namedField, lineOf};
 ghost use Rattle.page.specs.Parts.{RunsBy, ProcessorsFit, lineBy, linesBy};
 use decimals::lay_aligned;
 use decimals::lay_byte;
+use decimals::lay_letter;
 use decimals::lay_three;
 use inheritance::JobKeys;
 use inheritance::inherited_by;
@@ -46,14 +47,7 @@ pub fn running_ranks<'a>(
     let mut processor: u8 = 0;
     while processor < processors {
         let i = processor as usize;
-        running[i] = running_by(
-            counts.jobs,
-            named,
-            processor_of,
-            active,
-            request,
-            processor,
-        );
+        running[i] = running_by(counts.jobs, named, processor_of, active, request, processor);
         processor += 1;
     }
     running
@@ -70,15 +64,6 @@ fn state_letter(runs: u8, request: u16, rank: u8) -> u8
     } else {
         b'I'
     }
-}
-
-// A space and a letter.
-fn lay_letter(buf: &mut [u8], at: usize, letter: u8) -> usize
-    requires { ⌜ at + 2 ≤ length (now buf) ⌝ }
-    ensures { λ r. ⌜ Laid (now (buf .entry)) (now (buf .exit)) at r 2 (space ∷ letter ∷ []) ⌝ }
-{
-    let end = lay_byte(buf, at, b' ');
-    lay_byte(buf, end, letter)
 }
 
 // A space and a number in three bytes.

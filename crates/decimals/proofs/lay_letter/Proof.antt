@@ -1,9 +1,9 @@
--- `lines::lay::lay_letter` meets its contract: two bytes, one behind the other.
+-- `decimals::lay_letter` meets its contract: two bytes, one behind the other.
 -- Assumes nothing.
 use Rattle.decimals.specs.Laid.{laid-then}
 use borrow.Author.Needs.{needs}
-use Rattle.lines.proofs.lay.lay_letter.Statement.{statement}
-use Rattle.lines.proofs.lay.lay_letter.Tie as tie
+use Rattle.decimals.proofs.lay_letter.Statement.{statement}
+use Rattle.decimals.proofs.lay_letter.Tie as tie
 
 lay-byte-requires : tie.Need-lay-byte-requires
 lay-byte-requires c κs = search needs

@@ -1,0 +1,17 @@
+-- `page::lines::state_letter` meets its contract: its three ways are those of the definition.
+-- Assumes nothing.
+use borrow.Author.Tests.{eq-eqb, ne-eqb}
+use Rattle.page.proofs.lines.state_letter.Statement.{statement}
+use Rattle.page.proofs.lines.state_letter.Tie as tie
+
+returns : tie.Need-returns
+returns c = simp (eq-eqb _ _ (c .if1 .taken))
+
+returns-2 : tie.Need-returns-2
+returns-2 c = simp (ne-eqb _ _ (c .before .if1 .left), ne-eqb _ _ (c .if2 .taken))
+
+returns-3 : tie.Need-returns-3
+returns-3 c = simp (ne-eqb _ _ (c .before .if1 .left), eq-eqb _ _ (c .if2 .left))
+
+pub state-letter-spec : {M : Type 1} → statement M
+state-letter-spec = tie.close (tie.spec returns returns-2 returns-3)
