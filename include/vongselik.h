@@ -4,10 +4,10 @@
  * The caller keeps the state in a struct, sends events to it, and asks questions about it. A job is its rank: 1 is the most urgent. Ranks and
  * objects count from 1, processors from 0.
  *
- * Every call may be given any contents of the struct, any bytes and any numbers: it answers, or refuses by a number from 1 to 21 (below).
+ * Every call may be given any contents of the struct, any bytes and any numbers: it answers, or refuses by a number from 1 to 22 (below).
  * A call that refuses leaves every byte that was lent to it as it was; an event that is refused in a list of events leaves the state as it was, and has its
  * answer as the others have. No call allocates, blocks, ends the program or keeps anything between calls, so that two threads may work on two states.
- * Reading a table takes about 6 KB of stack and writing one about 14 KB, an event, a list of events or a question less than 1 KB.
+ * Reading a table takes about 6 KB of stack and writing one about 14 KB, the state page about 1 KB, an event, a list of events or a question less than 1 KB.
  * Of the C library only memcpy and memset are needed.
  *
  * What the caller still owes: each pointer points to an object of its type (a buffer or a list: to at least as many bytes or elements as its length says,
@@ -34,6 +34,9 @@ extern "C" {
 
 /* A buffer of this length is long enough for every table that vongselik_write_table writes. */
 #define VONGSELIK_LONGEST_TABLE (10 + VONGSELIK_MOST_JOBS + 3 * VONGSELIK_MOST_JOBS * VONGSELIK_MOST_OBJECTS)
+
+/* A buffer of this length is long enough for every page that vongselik_page lays: a line of 21 bytes for each job. */
+#define VONGSELIK_LONGEST_PAGE (21 * VONGSELIK_MOST_JOBS)
 
 /* ---- The state */
 
@@ -105,8 +108,9 @@ enum {
     VONGSELIK_ALREADY_HELD = 17,
     VONGSELIK_NOT_HELD = 18,
     VONGSELIK_NO_SUCH_PROCESSOR = 19,
-    VONGSELIK_BUFFER_TOO_SHORT = 20,
-    VONGSELIK_UNLOCK_OF_WRITE_LOCK = 21
+    VONGSELIK_BUFFER_TOO_SHORT = 20, /* for the table */
+    VONGSELIK_UNLOCK_OF_WRITE_LOCK = 21,
+    VONGSELIK_BUFFER_TOO_SHORT_FOR_PAGE = 22
 };
 
 /* The answer to an event. What its case does not have is 0. */
@@ -162,6 +166,11 @@ uint8_t vongselik_parts_read_table(
 uint8_t vongselik_parts_job_entries(const uint8_t *bytes, size_t size, uint8_t rank, size_t *start, size_t *length);
 
 uint8_t vongselik_parts_write_table(
+    uint8_t processors, uint8_t jobs, uint8_t objects, const uint8_t *processor_of, const uint64_t *may_read, const uint64_t *may_write,
+    uint64_t active, uint64_t unlocked, const uint64_t *readers, const uint64_t *writers, const uint16_t *request, uint8_t *buffer, size_t size,
+    size_t *length);
+
+uint8_t vongselik_parts_page(
     uint8_t processors, uint8_t jobs, uint8_t objects, const uint8_t *processor_of, const uint64_t *may_read, const uint64_t *may_write,
     uint64_t active, uint64_t unlocked, const uint64_t *readers, const uint64_t *writers, const uint16_t *request, uint8_t *buffer, size_t size,
     size_t *length);
@@ -280,6 +289,21 @@ static inline uint8_t vongselik_running(const vongselik_state *state, uint8_t pr
     return vongselik_parts_running(
         state->processors, state->jobs, state->objects, state->processor_of, state->may_read, state->may_write, state->active, state->unlocked,
         state->readers, state->writers, state->request, processor, rank);
+}
+
+/* ---- The state page */
+
+/* Lays the state page into the front of the buffer, sets *length to the page's length and leaves the rest of the buffer untouched. Answers 0.
+ * The page is text, a line for each active job by ascending rank; with no active job its length is 0. A line is 20 characters and a line feed. Its fields
+ * are right-aligned, with one space between them: the rank in 3 characters, the processor in 2, a letter (R the job runs, W it waits, I it is ready), the
+ * inherited rank in 3, and holder and object of the lock that the job names in 3 each, blank if it names nobody. They are what the questions answer.
+ * Refusals: 8; 22 if the page is longer than the buffer. The buffer and *length are then as they were. The state is only read. */
+static inline uint8_t vongselik_page(const vongselik_state *state, uint8_t *buffer, size_t size, size_t *length)
+{
+    uint8_t none = 0;
+    return vongselik_parts_page(
+        state->processors, state->jobs, state->objects, state->processor_of, state->may_read, state->may_write, state->active, state->unlocked,
+        state->readers, state->writers, state->request, size ? buffer : &none, size, length);
 }
 
 #ifdef __cplusplus

@@ -8,6 +8,9 @@
 enum { DIVERTER = 1, CAMERA = 2, SCALE = 3, TOTALS = 4 };
 enum { GATES = 1, IMAGE = 2, LABELS = 3 };
 
+/* The bytes of a line of the state page. */
+enum { PAGE_LINE = 21 };
+
 static const char *const job_name[] = {"nobody", "diverter", "camera", "scale", "totals"};
 static const char *const object_name[] = {"nothing", "gates", "image", "labels"};
 static const char *const kind_name[] = {"?", "start", "read-lock", "write-lock", "unlock", "finish", "abandon"};
@@ -80,6 +83,16 @@ static int print_processors(const vongselik_state *state)
     return 1;
 }
 
+/* Prints the state page, line by line. Answers 0 if the call refuses. */
+static int print_page(const vongselik_state *state)
+{
+    uint8_t page[VONGSELIK_LONGEST_PAGE];
+    size_t length, line;
+    if (vongselik_page(state, page, sizeof page, &length)) return 0;
+    for (line = 0; line < length; line += PAGE_LINE) printf("    %.*s", (int)PAGE_LINE, (const char *)page + line);
+    return 1;
+}
+
 /* Prints the ceilings of each object and the declared entries of each job. Answers 0 if a call refuses. */
 static int print_table(const vongselik_state *state, size_t used)
 {
@@ -110,6 +123,7 @@ static int writes_back(const vongselik_state *state)
 int main(void)
 {
     static vongselik_state state;
+    vongselik_answer answer;
     size_t used, i;
     uint8_t refusal = vongselik_read_table(&state, table, sizeof table, &used);
     if (refusal) {
@@ -121,8 +135,10 @@ int main(void)
         step s = scenario[i];
         printf("%2lu. %s %s", (unsigned long)i + 1, job_name[s.rank], kind_name[s.kind]);
         if (s.object) printf(" %s", object_name[s.object]);
-        print_answer(vongselik_event(&state, s.kind, s.rank, s.object));
+        answer = vongselik_event(&state, s.kind, s.rank, s.object);
+        print_answer(answer);
         if (!print_processors(&state)) return 1;
+        if (answer.answer == VONGSELIK_WAITS && !print_page(&state)) return 1;
     }
     printf("the table %s\n", writes_back(&state) ? "is as it was read" : "has changed");
     return 0;

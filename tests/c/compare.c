@@ -1,7 +1,8 @@
-/* Compares the library with the model (model.c) on random tables, events, states (inputs.c) and questions, and lists of events with single events too.
- * Prints how many calls agreed and how many did not.
+/* Compares the library with the model (model.c) on random tables, events, states (inputs.c), questions and state pages, lists of events with single events
+ * too, and state pages with the questions. Prints how many calls agreed and how many did not.
  * Usage: compare [TABLES [EVENTS [SEED]]]: 1,000 tables, 120 events on each. Each event is one call; so is each table, part, state and question,
- * each list of events, once for every place where it is cut, and each name of the header. */
+ * each list of events, once for every place where it is cut, each state page, once for every length of the buffer, each line of it beside the questions,
+ * and each name of the header. */
 #include <stdio.h>
 #include <stdlib.h>
 #include <string.h>
@@ -35,14 +36,14 @@ static void compare_names(void)
         VONGSELIK_PROCESSOR_BYTE_TOO_LARGE, VONGSELIK_ENTRY_OUT_OF_RANGE, VONGSELIK_ENTRY_OUT_OF_ORDER, VONGSELIK_STATE_NOT_WELL_FORMED,
         VONGSELIK_UNKNOWN_KIND, VONGSELIK_RANK_OUT_OF_RANGE, VONGSELIK_OBJECT_OUT_OF_RANGE, VONGSELIK_ALREADY_ACTIVE, VONGSELIK_IDLE, VONGSELIK_WAITING,
         VONGSELIK_LOCK_AFTER_UNLOCK, VONGSELIK_NOT_DECLARED, VONGSELIK_ALREADY_HELD, VONGSELIK_NOT_HELD, VONGSELIK_NO_SUCH_PROCESSOR,
-        VONGSELIK_BUFFER_TOO_SHORT, VONGSELIK_UNLOCK_OF_WRITE_LOCK};
+        VONGSELIK_BUFFER_TOO_SHORT, VONGSELIK_UNLOCK_OF_WRITE_LOCK, VONGSELIK_BUFFER_TOO_SHORT_FOR_PAGE};
     int i;
     for (i = 1; i <= 6; i++) check(kinds[i] == i, "a kind's number");
     for (i = 1; i <= 4; i++) check(answers[i] == i, "an answer's number");
     for (i = 1; i <= 3; i++) check(reasons[i] == i, "a reason's number");
-    for (i = 0; i <= 21; i++) check(refusals[i] == i, "a refusal's number");
+    for (i = 0; i <= 22; i++) check(refusals[i] == i, "a refusal's number");
     check(VONGSELIK_MOST_JOBS == 64 && VONGSELIK_MOST_OBJECTS == 128 && VONGSELIK_MOST_PROCESSORS == 8, "a limit");
-    check(VONGSELIK_NOBODY == 65 && VONGSELIK_LONGEST_TABLE == 10 + 64 + 3 * 8192, "a limit");
+    check(VONGSELIK_NOBODY == 65 && VONGSELIK_LONGEST_TABLE == 10 + 64 + 3 * 8192 && VONGSELIK_LONGEST_PAGE == 64 * 21, "a limit");
 }
 
 /* ---- Tables */
@@ -125,6 +126,88 @@ static void compare_questions(const vongselik_state *s, const model *m, int all)
     check(number == refusal && a == x, "running");
 }
 
+/* ---- The state page */
+
+/* The most that is lent for a page, the bytes before it and behind it, which nobody may write, and all of them. */
+enum { LENT = VONGSELIK_LONGEST_PAGE + 100, AROUND = 30, PAGE_ROOM = AROUND + LENT + AROUND };
+
+/* How many pages had no line, how many a line for each of 64 jobs, how many were refused by 22, and how many lines were of a waiting job that names nobody.
+ * In a run of enough tables each has to occur. */
+enum { ENOUGH = 200 };
+static unsigned long empty_pages, longest_pages, short_buffers, naming_nobody;
+
+/* The page in a buffer of this length, compared with the model: the answer, the length, each byte of the buffer and around it, and that the state is
+ * as it was. Answers the model's length, 0 where it refuses. */
+static size_t compare_page_in(const vongselik_state *s, const model *m, size_t size)
+{
+    uint8_t ours[PAGE_ROOM], theirs[PAGE_ROOM];
+    vongselik_state asked = *s;
+    size_t length = 777, model_length = 777, i, first = (size_t)below(256);
+    int refusal, number;
+    for (i = 0; i < PAGE_ROOM; i++) ours[i] = theirs[i] = (uint8_t)(i * 37 + first);
+    refusal = model_page(m, theirs + AROUND, size, &model_length);
+    number = vongselik_page(&asked, size ? ours + AROUND : NULL, size, &length);
+    check(number == refusal && length == model_length && !memcmp(ours, theirs, PAGE_ROOM) && !memcmp(&asked, s, sizeof asked), "page");
+    if (refusal == 22) short_buffers++;
+    if (refusal) return 0;
+    if (model_length == 0) empty_pages++;
+    if (model_length == VONGSELIK_LONGEST_PAGE) longest_pages++;
+    return model_length;
+}
+
+/* A line of the page, field by field, beside what the questions answer for an active job. */
+static void compare_line(const vongselik_state *s, uint8_t rank, const uint8_t *bytes)
+{
+    char line[22] = "", letter = 0;
+    uint8_t runs = 0, inherited = 0, holder = 0, object = 0;
+    int fields, numbers[5] = {0, 0, 0, 0, 0}, waits = s->request[rank - 1] != 0;
+    memcpy(line, bytes, 21);
+    fields = sscanf(line, "%d %d %c %d %d %d", &numbers[0], &numbers[1], &letter, &numbers[2], &numbers[3], &numbers[4]);
+    vongselik_running(s, s->processor_of[rank - 1], &runs);
+    vongselik_inherited_rank(s, rank, &inherited);
+    vongselik_named_lock(s, rank, &holder, &object);
+    check(
+        fields == (holder ? 6 : 4) && numbers[0] == rank && numbers[1] == s->processor_of[rank - 1] && letter == (runs == rank ? 'R' : waits ? 'W' : 'I')
+            && numbers[2] == inherited && numbers[3] == holder && numbers[4] == object,
+        "a line of the page and the questions");
+    if (waits && !holder) naming_nobody++;
+}
+
+/* The page of the state in a buffer that is longer, as long, one byte too short, of any length, and of none; and each of its lines. */
+static void compare_page(const vongselik_state *s, const model *m)
+{
+    uint8_t page[LENT] = {0};
+    size_t length = compare_page_in(s, m, LENT), laid, line = 0;
+    int rank;
+    compare_page_in(s, m, length);
+    compare_page_in(s, m, length ? length - 1 : 0);
+    compare_page_in(s, m, (size_t)below(LENT));
+    compare_page_in(s, m, 0);
+    if (!model_well_formed(m)) return;
+    vongselik_page(s, page, LENT, &laid);
+    for (rank = 1; rank <= m->jobs; rank++)
+        if (m->active[rank]) compare_line(s, (uint8_t)rank, page + 21 * line++);
+}
+
+/* The page of the state with every job started. */
+static void compare_full_page(const vongselik_state *reached)
+{
+    vongselik_state s = *reached;
+    model m;
+    int rank;
+    for (rank = 1; rank <= s.jobs; rank++) vongselik_event(&s, VONGSELIK_START, (uint8_t)rank, 0);
+    model_from(&m, &s);
+    compare_page(&s, &m);
+}
+
+/* Prints how many pages of each kind there were, and checks that there were some. */
+static void check_pages_occurred(int tables)
+{
+    printf("state pages: %lu with no line, %lu with 64, %lu refused by 22; ", empty_pages, longest_pages, short_buffers);
+    printf("%lu lines of a waiting job that names nobody\n", naming_nobody);
+    if (tables >= ENOUGH) check(empty_pages && longest_pages && short_buffers && naming_nobody, "a page that has to occur does not");
+}
+
 /* ---- Events */
 
 /* A random event on both, and the whole state compared after it. */
@@ -142,12 +225,13 @@ static void compare_event(vongselik_state *s, model *m)
 
 /* ---- States handed in */
 
-/* The state in the struct, handed in: an event, the questions and the writer. */
+/* The state in the struct, handed in: the page, an event, the questions and the writer. */
 static void compare_handed_in(const vongselik_state *handed)
 {
     vongselik_state s = *handed;
     model m;
     model_from(&m, &s);
+    compare_page(&s, &m);
     compare_event(&s, &m);
     compare_questions(&s, &m, below(4) == 0);
     if (below(4) == 0) compare_writing(&s, &m, below(3) ? (size_t)LONGEST : (size_t)below(400));
@@ -260,15 +344,18 @@ static void compare_table(int events)
     int i, k;
     compare_tables(&s, bytes, &used);
     model_from(&m, &s);
+    compare_page(&s, &m);
     for (i = 0; i < events; i++) {
         compare_event(&s, &m);
         if (i % 4 == 0) compare_questions(&s, &m, i % 16 == 0);
         if (i % 6) continue;
+        compare_page(&s, &m);
         other = s;
         if (below(2)) strew(&other);
         for (k = below(4); k > 0; k--) mutate(&other);
         compare_handed_in(&other);
     }
+    compare_full_page(&s);
     compare_writing(&s, &m, LONGEST);
     compare_writing(&s, &m, used);
     compare_writing(&s, &m, used - 1);
@@ -288,6 +375,7 @@ int main(int argc, char **argv)
         compare_table(events);
     }
     printf("%d tables, %lu events in their order\n", tables, (unsigned long)tables * (unsigned long)events);
+    check_pages_occurred(tables);
     printf("%lu passed, %lu failed\n", passed, failed);
     return failed ? 1 : 0;
 }

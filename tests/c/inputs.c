@@ -38,7 +38,7 @@ size_t make_table(uint8_t *b)
     size_t n, count = 0;
     memcpy(b, "JOB\0\1", 5);
     b[5] = (uint8_t)(1 + below(8));
-    b[6] = (uint8_t)(1 + below(size == 3 ? 64 : 10));
+    b[6] = (uint8_t)(size == 3 && !below(4) ? 64 : 1 + below(size == 3 ? 64 : 10));
     b[7] = (uint8_t)(1 + below(most_objects[size]));
     for (r = 1; r <= b[6]; r++) b[7 + r] = (uint8_t)below(b[5]);
     n = (size_t)10 + b[6];

@@ -1,6 +1,7 @@
-/* The rule of document 01, with CR 1 of document 02, written a second time: see model.h. */
+/* The rule of document 01, with CR 1 and CR 2 of document 02, written a second time: see model.h. */
 #include "model.h"
 
+#include <stdio.h>
 #include <string.h>
 
 /* ---- A state spread out */
@@ -265,19 +266,47 @@ static lock named_by(const model *m, int rank)
     return waits(m, rank) && !passes(m, rank) ? named(m, rank) : none;
 }
 
-static int inherited(const model *m, int rank)
+/* What each job names, by rank. */
+typedef struct {
+    lock by[65];
+} names;
+
+static names all_names(const model *m)
+{
+    names n;
+    int r;
+    for (r = 1; r <= 64; r++) n.by[r] = named_by(m, r);
+    return n;
+}
+
+static int inherited(const names *n, int rank)
 {
     int r;
     for (r = 1; r < rank; r++)
-        if (waits(m, r) && named_by(m, r).holder == rank) return r;
+        if (n->by[r].holder == rank) return r;
+    return rank;
+}
+
+/* The rank that the processor runs, 0 if it is idle. */
+static int running(const model *m, const names *n, int processor)
+{
+    int r, best = 1000, rank = 0;
+    for (r = 1; r <= m->jobs; r++)
+        if (m->processor[r] == processor && m->active[r] && !waits(m, r) && inherited(n, r) < best) {
+            best = inherited(n, r);
+            rank = r;
+        }
     return rank;
 }
 
 int model_inherited_rank(const model *m, int rank, int *value)
 {
     int refusal = job_refusal(m, rank);
-    if (!refusal) *value = inherited(m, rank);
-    return refusal;
+    names n;
+    if (refusal) return refusal;
+    n = all_names(m);
+    *value = inherited(&n, rank);
+    return 0;
 }
 
 int model_named_lock(const model *m, int rank, int *holder, int *object)
@@ -301,15 +330,42 @@ int model_ceilings(const model *m, int object, int *write_value, int *absolute_v
 
 int model_running(const model *m, int processor, int *rank)
 {
-    int r, best = 1000;
+    names n;
     if (!model_well_formed(m)) return 8;
     if (processor >= m->processors) return 19;
-    *rank = 0;
+    n = all_names(m);
+    *rank = running(m, &n, processor);
+    return 0;
+}
+
+/* ---- The state page */
+
+/* Lays the line of an active job, and a null character behind it. Answers the line's length. */
+static int lay_line(const model *m, const names *n, int rank, char *line)
+{
+    char holder[4] = "", object[4] = "", letter = 'I';
+    if (running(m, n, m->processor[rank]) == rank) letter = 'R';
+    if (waits(m, rank)) letter = 'W';
+    if (n->by[rank].holder) {
+        sprintf(holder, "%d", n->by[rank].holder);
+        sprintf(object, "%d", n->by[rank].object);
+    }
+    return sprintf(line, "%3d %2d %c %3d %3s %3s\n", rank, m->processor[rank], letter, inherited(n, rank), holder, object);
+}
+
+int model_page(const model *m, uint8_t *buffer, size_t size, size_t *length)
+{
+    char page[21 * 64 + 1];
+    size_t end = 0;
+    names n;
+    int r;
+    if (!model_well_formed(m)) return 8;
+    n = all_names(m);
     for (r = 1; r <= m->jobs; r++)
-        if (m->processor[r] == processor && m->active[r] && !waits(m, r) && inherited(m, r) < best) {
-            best = inherited(m, r);
-            *rank = r;
-        }
+        if (m->active[r]) end += (size_t)lay_line(m, &n, r, page + end);
+    if (size < end) return 22;
+    memcpy(buffer, page, end);
+    *length = end;
     return 0;
 }
 

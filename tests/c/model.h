@@ -1,5 +1,5 @@
-/* The rule of document 01, with CR 1 of document 02, written a second time, as plainly as possible: sets are tables of flags, loops go over every job
- * and object. */
+/* The rule of document 01, with CR 1 and CR 2 of document 02, written a second time, as plainly as possible: sets are tables of flags, loops go over
+ * every job and object. */
 #ifndef MODEL_H
 #define MODEL_H
 
@@ -39,5 +39,8 @@ int model_running(const model *m, int processor, int *rank);
 int model_read_table(model *m, const uint8_t *bytes, size_t size, size_t *used);
 int model_job_entries(const uint8_t *bytes, size_t size, int rank, size_t *start, size_t *length);
 int model_write_table(const model *m, uint8_t *buffer, size_t size, size_t *length);
+
+/* The state page: the refusal's number, or 0, the page at the front of the buffer and its length. */
+int model_page(const model *m, uint8_t *buffer, size_t size, size_t *length);
 
 #endif

@@ -73,6 +73,11 @@ static void running(void)
     number = vongselik_running(&state, processor, values);
 }
 
+static void lay_page(void)
+{
+    number = vongselik_page(&state, buffer, size, &length);
+}
+
 /* ---- The calls, each with its stack */
 
 typedef struct {
@@ -81,7 +86,7 @@ typedef struct {
     unsigned char room[ROOM];
 } call;
 
-enum { ENTER, READ_TABLE, JOB_ENTRIES, WRITE_TABLE, EVENT, LIST, INHERITED_RANK, NAMED_LOCK, CEILINGS, RUNNING, CALLS };
+enum { ENTER, READ_TABLE, JOB_ENTRIES, WRITE_TABLE, EVENT, LIST, INHERITED_RANK, NAMED_LOCK, CEILINGS, RUNNING, PAGE, CALLS };
 
 static call calls[CALLS] = {
     {"", enter, {0}},
@@ -93,7 +98,8 @@ static call calls[CALLS] = {
     {"vongselik_inherited_rank", inherited_rank, {0}},
     {"vongselik_named_lock", named_lock, {0}},
     {"vongselik_ceilings", ask_ceilings, {0}},
-    {"vongselik_running", running, {0}}};
+    {"vongselik_running", running, {0}},
+    {"vongselik_page", lay_page, {0}}};
 
 /* Runs the call on its stack. */
 static void run(int which)
@@ -132,7 +138,7 @@ static void run_tables(void)
     }
 }
 
-/* An event on the state, the questions and the writer. */
+/* An event on the state, the questions, the page and the writer. */
 static void run_state(void)
 {
     asked = any_event(&state);
@@ -143,6 +149,7 @@ static void run_state(void)
     run(NAMED_LOCK);
     run(CEILINGS);
     run(RUNNING);
+    run(PAGE);
     run(WRITE_TABLE);
 }
 

@@ -7,8 +7,7 @@
 #include <string.h>
 #include <time.h>
 
-/* Sends an event that has to be answered so. */
-static void send(vongselik_state *s, int kind, int rank, int object, int answer)
+void send_answered(vongselik_state *s, int kind, int rank, int object, int answer)
 {
     if (vongselik_event(s, (uint8_t)kind, (uint8_t)rank, (uint8_t)object).answer == answer) return;
     fprintf(stderr, "event %d %d %d is not answered by %d\n", kind, rank, object, answer);
@@ -31,11 +30,11 @@ void prepare(vongselik_state *s, layout l, int waiting)
 {
     int r, o;
     declare(s, l);
-    for (r = 1; r <= HOLDER; r++) send(s, VONGSELIK_START, r, 0, VONGSELIK_DONE);
-    send(s, VONGSELIK_WRITE_LOCK, HOLDER, l.stopping, VONGSELIK_GRANTED);
+    for (r = 1; r <= HOLDER; r++) send_answered(s, VONGSELIK_START, r, 0, VONGSELIK_DONE);
+    send_answered(s, VONGSELIK_WRITE_LOCK, HOLDER, l.stopping, VONGSELIK_GRANTED);
     for (o = 1; o <= l.objects; o++)
-        if (o == l.given_up || (l.all_held && o != l.stopping)) send(s, VONGSELIK_READ_LOCK, HOLDER, o, VONGSELIK_GRANTED);
-    for (r = 1; r <= waiting; r++) send(s, VONGSELIK_READ_LOCK, r, l.stopping, VONGSELIK_WAITS);
+        if (o == l.given_up || (l.all_held && o != l.stopping)) send_answered(s, VONGSELIK_READ_LOCK, HOLDER, o, VONGSELIK_GRANTED);
+    for (r = 1; r <= waiting; r++) send_answered(s, VONGSELIK_READ_LOCK, r, l.stopping, VONGSELIK_WAITS);
 }
 
 void unlock_often(vongselik_state *s, layout l, int times)

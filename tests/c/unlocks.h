@@ -1,4 +1,5 @@
-/* An unlock that tries every waiting job and wakes none: the states for it, and many of it. For waiting.c and tools/speed.c, which time it. */
+/* An unlock that tries every waiting job and wakes none: the states for it, and many of it. For waiting.c and tools/speed.c, which time it. For page_cost.c
+ * too, which times the state page: events that have to be answered so, and the time. */
 #ifndef UNLOCKS_H
 #define UNLOCKS_H
 
@@ -12,6 +13,9 @@ typedef struct layout {
     int objects, stopping, given_up;
     int all_held; /* whether the holder has a read lock on every other object */
 } layout;
+
+/* Sends an event that has to be answered so; ends the program if it is not. */
+void send_answered(vongselik_state *s, int kind, int rank, int object, int answer);
 
 /* Every job is started, the holder has its locks, and so many jobs wait. */
 void prepare(vongselik_state *s, layout l, int waiting);
