@@ -1,4 +1,4 @@
--- Inherited ranks and the running job by the lock that each rank names: the array of the named locks' keys, once made, answers for all jobs and processors.
+-- Inherited ranks and the running job by the lock that each rank names: the array of the named locks, once made, answers for all jobs and processors.
 -- Then that these are the inherited ranks and the running job of the state with those named locks.
 -- Assumes nothing.
 use mathlib.Core.Path.{_≡_, refl, sym, ap, _∙_}
@@ -14,13 +14,13 @@ use Rattle.basics.specs.Loops.{least, least-same}
 use Rattle.ranks.specs.Ranks.{member}
 use Rattle.state.specs.declared.State.{State}
 use Rattle.state.specs.State.{isWaiting}
-use Rattle.weights.specs.Keys.{noKey, keyHolder}
-use Rattle.rule.specs.Granting.{namedKey, namedHolder}
+use Rattle.weights.specs.Keys.{noKey, keyHolder, keyObject}
+use Rattle.rule.specs.Granting.{namedKey, namedHolder, namedObject}
 use Rattle.inheritance.specs.Running.{inheritedFrom, inheritedRank, isReady, readyKey, runningRank}
 
--- each job's element is the key of the lock that it names
+-- each job's element is the lock that it names: the lock's key without the weight
 abbrev pub NamedBy : List ℕ → State → Type 0
-NamedBy named s = (r : ℕ) → 1 ≤ r → r ≤ s .counts .jobs → at named r ≡ namedKey s r
+NamedBy named s = (r : ℕ) → 1 ≤ r → r ≤ s .counts .jobs → at named r ≡ namedKey s r % 65536
 
 -- r if it names j, else j
 abbrev pub heir : ℕ → ℕ → ℕ → ℕ
@@ -52,11 +52,17 @@ names-waiting s j r p = go (isWaiting s r) refl
     go false e = let none : eqb 0 j ≡ false = ne-eqb 0 j (λ z. omega arith) in rw (e, none)
 
 module _ (named : List ℕ) (s : State) (by : NamedBy named s) where
+  pub named-holder-by : (r : ℕ) → 1 ≤ r → r ≤ s .counts .jobs → keyHolder (at named r) ≡ namedHolder s r
+  named-holder-by r a b = let lock = by r a b in omega arith
+
+  pub named-object-by : (r : ℕ) → 1 ≤ r → r ≤ s .counts .jobs → keyObject (at named r) ≡ namedObject s r
+  named-object-by r a b = let lock = by r a b in omega arith
+
   pub inherited-by : (j : ℕ) → 1 ≤ j → inheritedBy (s .counts .jobs) named j ≡ inheritedRank s j
   unfolding inheritedBy inheritedRank
   inherited-by j p =
       least-same (s .counts .jobs) j (λ r. heir (keyHolder (at named r)) j r) (inheritedFrom s j)
-      (λ r a b. ap (λ (n : ℕ). heir (keyHolder n) j r) (by r a b) ∙ sym (names-waiting s j r p))
+      (λ r a b. ap (λ (n : ℕ). heir n j r) (named-holder-by r a b) ∙ sym (names-waiting s j r p))
 
   pub running-by : (p : ℕ) → runningBy (s .counts .jobs) named (s .«processor_of») (s .active) (s .request) p ≡ runningRank s p
   unfolding runningBy runningRank

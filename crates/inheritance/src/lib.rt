@@ -2,6 +2,7 @@
 ghost use mathlib.Core.Path.{_≡_};
 ghost use Prim.Native.Nat.{_≤_, min};
 ghost use Rattle.state.specs.State.{mostJobs, mostObjects};
+ghost use Rattle.weights.specs.Keys as K;
 ghost use Rattle.inheritance.specs.Running as R;
 ghost use Rattle.inheritance.specs.Inheriting as I;
 ghost use Rattle.rule.specs.Parts.{waitsState};
@@ -13,31 +14,30 @@ use state::JobProcessors;
 use state::JobRequests;
 use state::Sets;
 use weights::NO_KEY;
-use weights::key_holder;
 use weights::lower;
 
-// A key of a lock for each rank.
-pub type JobKeys = [u64; 64];
+// A lock for each rank, by its key without the weight; 0 for no lock.
+pub type JobLocks = [u16; 64];
 
-// For each rank, the key of the lock that it names; no lock's where it does not wait or names nobody.
-pub fn named_keys<'a>(
+// For each rank, the lock that it names; no lock where it does not wait or names nobody.
+pub fn named_locks<'a>(
     counts: Counts,
     may_read: Sets<'a>,
     may_write: Sets<'a>,
     readers: Sets<'a>,
     writers: Sets<'a>,
     request: &'a JobRequests,
-) -> JobKeys
+) -> JobLocks
     requires { ⌜ (counts .jobs ≤ mostJobs) × (counts .objects ≤ mostObjects) ⌝ }
     ensures { λ r. ⌜ I.NamedBy r (waitsState counts (now («may_read» .entry)) (now («may_write» .entry)) (now (readers .entry)) (now (writers .entry)) (now (request .entry))) ⌝ }
 {
     let jobs = counts.jobs;
-    let mut named: JobKeys = [NO_KEY; 64];
+    let mut named: JobLocks = [0; 64];
     let mut rank: u8 = 0;
     while rank < jobs {
         let i = rank as usize;
         rank += 1;
-        named[i] = named_key(
+        let key = named_key(
             counts,
             may_read,
             may_write,
@@ -46,8 +46,23 @@ pub fn named_keys<'a>(
             request[i],
             rank,
         );
+        named[i] = (key % 65536) as u16;
     }
     named
+}
+
+// The holder of the lock; 0 for no lock.
+pub fn lock_holder(lock: u16) -> u8
+    ensures { λ r. ⌜ r ≡ K.keyHolder lock ⌝ }
+{
+    (lock / 256) as u8
+}
+
+// The object of the lock; 0 for no lock.
+pub fn lock_object(lock: u16) -> u8
+    ensures { λ r. ⌜ r ≡ K.keyObject lock ⌝ }
+{
+    (lock % 256) as u8
 }
 
 // The other rank if it names the rank, else the rank.
@@ -65,7 +80,7 @@ fn lesser(a: u8, b: u8) -> u8
 }
 
 // The most urgent of the rank and of the ranks that name it, by the lock that each rank names.
-pub fn inherited_by<'a>(jobs: u8, named: &'a JobKeys, rank: u8) -> u8
+pub fn inherited_by<'a>(jobs: u8, named: &'a JobLocks, rank: u8) -> u8
     requires { ⌜ jobs ≤ mostJobs ⌝ }
     ensures { λ r. ⌜ r ≡ I.inheritedBy jobs (now (named .entry)) rank ⌝ }
 {
@@ -74,7 +89,7 @@ pub fn inherited_by<'a>(jobs: u8, named: &'a JobKeys, rank: u8) -> u8
     while other < jobs {
         let i = other as usize;
         other += 1;
-        inherited = lesser(inherited, heir(key_holder(named[i]), rank, other));
+        inherited = lesser(inherited, heir(lock_holder(named[i]), rank, other));
     }
     inherited
 }
@@ -92,7 +107,7 @@ pub fn inherited_rank<'a>(
     requires { ⌜ (counts .jobs ≤ mostJobs) × (counts .objects ≤ mostObjects) × (1 ≤ rank) ⌝ }
     ensures { λ r. ⌜ r ≡ R.inheritedRank (waitsState counts (now («may_read» .entry)) (now («may_write» .entry)) (now (readers .entry)) (now (writers .entry)) (now (request .entry))) rank ⌝ }
 {
-    let named = named_keys(counts, may_read, may_write, readers, writers, request);
+    let named = named_locks(counts, may_read, may_write, readers, writers, request);
     inherited_by(counts.jobs, &named, rank)
 }
 
@@ -105,7 +120,7 @@ fn is_ready(own: u8, processor: u8, active: RankSet, request: u16, rank: u8) -> 
 }
 
 // The key that orders ready jobs by inherited rank; no lock's key for a job that isn't ready.
-fn ready_key<'a>(jobs: u8, named: &'a JobKeys, ready: bool, rank: u8) -> u64
+fn ready_key<'a>(jobs: u8, named: &'a JobLocks, ready: bool, rank: u8) -> u64
     requires { ⌜ jobs ≤ mostJobs ⌝ }
     ensures { λ r. ⌜ r ≡ I.readyKeyBy jobs (now (named .entry)) ready rank ⌝ }
 {
@@ -119,7 +134,7 @@ fn ready_key<'a>(jobs: u8, named: &'a JobKeys, ready: bool, rank: u8) -> u64
 // The ready rank of the processor with the most urgent inherited rank, by the lock that each rank names; 0 where none is ready.
 pub fn running_by<'a>(
     jobs: u8,
-    named: &'a JobKeys,
+    named: &'a JobLocks,
     processor_of: &'a JobProcessors,
     active: RankSet,
     request: &'a JobRequests,
@@ -154,7 +169,7 @@ pub fn running_rank<'a>(
     requires { ⌜ (counts .jobs ≤ mostJobs) × (counts .objects ≤ mostObjects) ⌝ }
     ensures { λ r. ⌜ r ≡ R.runningRank (runState counts (now («processor_of» .entry)) active (now («may_read» .entry)) (now («may_write» .entry)) (now (readers .entry)) (now (writers .entry)) (now (request .entry))) processor ⌝ }
 {
-    let named = named_keys(counts, may_read, may_write, readers, writers, request);
+    let named = named_locks(counts, may_read, may_write, readers, writers, request);
     running_by(
         counts.jobs,
         &named,

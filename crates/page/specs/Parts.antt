@@ -1,4 +1,4 @@
--- The page by what the code has worked out: the key of the lock that each rank names, and the rank that each processor runs.
+-- The page by what the code has worked out: the lock that each rank names, and the rank that each processor runs.
 -- Then that it is the page of the state with these.
 -- Assumes nothing.
 use mathlib.Core.Path.{_≡_, refl, sym, ap, _∙_}
@@ -20,7 +20,7 @@ use Rattle.weights.specs.Weights.{weight}
 use Rattle.weights.specs.Keys.{keyHolder, keyObject, othersKey, objectKey, lowestKeyBy}
 use Rattle.rule.specs.Granting.{namedKey}
 use Rattle.inheritance.specs.Running.{inheritedRank, runningRank}
-use Rattle.inheritance.specs.Inheriting.{NamedBy, heir, inheritedBy, runningBy, inherited-by, running-by}
+use Rattle.inheritance.specs.Inheriting.{NamedBy, heir, inheritedBy, runningBy, inherited-by, running-by, named-holder-by, named-object-by}
 use Rattle.inheritance.specs.Parts.{runOf}
 use Rattle.page.specs.Page.{letterOf, lineOf, pageLine, page}
 use Rattle.page.specs.LineLaws.{line-length}
@@ -89,7 +89,7 @@ module _ (s : State) (named running : List ℕ) (by : NamedBy named s) (runs : R
   unfolding lineBy
   line-by r a b =
       let running-is = runs (processorOf s r) (fit r a b) ∙ running-by named s by (processorOf s r) in
-      λ i. lineOf r (processorOf s r) (letterOf (running-is i) (isWaiting s r) r) (inherited-by named s by r a i) (keyHolder (by r a b i)) (keyObject (by r a b i))
+      λ i. lineOf r (processorOf s r) (letterOf (running-is i) (isWaiting s r) r) (inherited-by named s by r a i) (named-holder-by named s by r a b i) (named-object-by named s by r a b i)
 
   pub lines-by : linesBy (s .counts .jobs) (s .counts .jobs) named running (s .«processor_of») (s .active) (s .request) ≡ page s
   unfolding linesBy page

@@ -13,7 +13,7 @@ ghost use Rattle.page.specs.Parts.{ProcessorsFit};
 
 mod lines;
 
-use inheritance::named_keys;
+use inheritance::named_locks;
 use lines::lay_lines;
 use lines::running_ranks;
 use ranks::RankSet;
@@ -116,7 +116,7 @@ fn lay_page<'a>(
     ensures { λ _. ⌜ now (buf .exit) ≡ atFront (P.page (runState counts (now («processor_of» .entry)) active (now («may_read» .entry)) (now («may_write» .entry))
         (now (readers .entry)) (now (writers .entry)) (now (request .entry)))) (now (buf .entry)) ⌝ }
 {
-    let named = named_keys(counts, may_read, may_write, readers, writers, request);
+    let named = named_locks(counts, may_read, may_write, readers, writers, request);
     let running = running_ranks(counts, &named, processor_of, active, request);
     lay_lines(buf, counts, &named, &running, processor_of, active, request);
 }

@@ -17,16 +17,16 @@ use decimals::lay_aligned;
 use decimals::lay_byte;
 use decimals::lay_letter;
 use decimals::lay_three;
-use inheritance::JobKeys;
+use inheritance::JobLocks;
 use inheritance::inherited_by;
+use inheritance::lock_holder;
+use inheritance::lock_object;
 use inheritance::running_by;
 use ranks::RankSet;
 use ranks::contains;
 use state::Counts;
 use state::JobProcessors;
 use state::JobRequests;
-use weights::key_holder;
-use weights::key_object;
 
 // A rank for each processor.
 pub type ProcessorRanks = [u8; 8];
@@ -34,7 +34,7 @@ pub type ProcessorRanks = [u8; 8];
 // For each processor the rank that it runs, by the lock that each rank names; 0 where it is idle.
 pub fn running_ranks<'a>(
     counts: Counts,
-    named: &'a JobKeys,
+    named: &'a JobLocks,
     processor_of: &'a JobProcessors,
     active: RankSet,
     request: &'a JobRequests,
@@ -113,7 +113,7 @@ fn lay_line(
 fn lay_rank<'a>(
     line: &mut [u8],
     jobs: u8,
-    named: &'a JobKeys,
+    named: &'a JobLocks,
     running: &'a ProcessorRanks,
     processor_of: &'a JobProcessors,
     request: &'a JobRequests,
@@ -126,9 +126,9 @@ fn lay_rank<'a>(
     let processor = processor_of[i];
     let letter = state_letter(running[processor as usize], request[i], rank);
     let inherited = inherited_by(jobs, named, rank);
-    let key = named[i];
-    let holder = key_holder(key);
-    let object = key_object(key);
+    let lock = named[i];
+    let holder = lock_holder(lock);
+    let object = lock_object(lock);
     lay_line(line, rank, processor, letter, inherited, holder, object);
 }
 
@@ -136,7 +136,7 @@ fn lay_rank<'a>(
 pub fn lay_lines<'a>(
     buf: &mut [u8],
     counts: Counts,
-    named: &'a JobKeys,
+    named: &'a JobLocks,
     running: &'a ProcessorRanks,
     processor_of: &'a JobProcessors,
     active: RankSet,

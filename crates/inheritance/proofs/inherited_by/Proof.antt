@@ -30,14 +30,14 @@ cast-i c = search needs
 add-other : tie.Need-add-other Inv-loop μ-loop
 add-other c = search needs
 
-mul-key-holder : tie.Need-mul-key-holder Inv-loop μ-loop
-mul-key-holder c = search needs
+mul-lock-holder : tie.Need-mul-lock-holder Inv-loop μ-loop
+mul-lock-holder c = search needs
 
-element-copy-out-key-holder : tie.Need-element-copy-out-key-holder Inv-loop μ-loop
-element-copy-out-key-holder c = search needs
+element-copy-out-lock-holder : tie.Need-element-copy-out-lock-holder Inv-loop μ-loop
+element-copy-out-lock-holder c = search needs
 
-key-holder-requires : tie.Need-key-holder-requires Inv-loop μ-loop
-key-holder-requires c κs = search needs
+lock-holder-requires : tie.Need-lock-holder-requires Inv-loop μ-loop
+lock-holder-requires c κs = search needs
 
 heir-requires : tie.Need-heir-requires Inv-loop μ-loop
 heir-requires c κs = search needs
@@ -53,7 +53,7 @@ unfolding inheritedBy
 loop-again c =
     let a = c .before .before .before .before .before .before .args in
     let other = c .before .before .before .before .before .loop .other in
-    let named = c .before .before .key-holder .ensures ∙ ap keyHolder (sym (at-next (now (a .named)) other)) in (
+    let named = c .before .before .lock-holder .ensures ∙ ap keyHolder (sym (at-next (now (a .named)) other)) in (
       search needs,
       c .lesser .ensures
           ∙ ap₂ min (c .before .before .before .before .before .loop .inv .1) (c .before .heir .ensures ∙ ap (λ (n : ℕ). heir n (a .rank) (other + 1)) named)
@@ -75,9 +75,9 @@ inherited-by-spec =
     loop-holds
     cast-i
     add-other
-    mul-key-holder
-    element-copy-out-key-holder
-    key-holder-requires
+    mul-lock-holder
+    element-copy-out-lock-holder
+    lock-holder-requires
     heir-requires
     lesser-requires
     loop-less

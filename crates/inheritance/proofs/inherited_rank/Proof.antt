@@ -1,4 +1,4 @@
--- `inheritance::inherited_rank` meets its contract: by whom each rank names, as `inherited-by` says.
+-- `inheritance::inherited_rank` meets its contract: by the lock that each rank names, as `inherited-by` says.
 -- Assumes nothing.
 use mathlib.Core.Path.{_∙_}
 use denote.Ref.{now}
@@ -9,8 +9,8 @@ use borrow.Author.Needs.{needs}
 use Rattle.inheritance.proofs.inherited_rank.Statement.{statement}
 use Rattle.inheritance.proofs.inherited_rank.Tie as tie
 
-named-keys-requires : tie.Need-named-keys-requires
-named-keys-requires c κs = search needs
+named-locks-requires : tie.Need-named-locks-requires
+named-locks-requires c κs = search needs
 
 inherited-by-requires : tie.Need-inherited-by-requires
 inherited-by-requires c κs = search needs
@@ -19,7 +19,7 @@ returns : tie.Need-returns
 returns c =
     let a = c .before .before .before .args in
     c .inherited-by .ensures
-    ∙ inherited-by (c .before .before .named-keys .result) (waitsState (a .counts) (now (a .may-read)) (now (a .may-write)) (now (a .readers)) (now (a .writers)) (now (a .request))) (c .before .before .named-keys .ensures) (a .rank) (omega arith)
+    ∙ inherited-by (c .before .before .named-locks .result) (waitsState (a .counts) (now (a .may-read)) (now (a .may-write)) (now (a .readers)) (now (a .writers)) (now (a .request))) (c .before .before .named-locks .ensures) (a .rank) (omega arith)
 
 pub inherited-rank-spec : {M : Type 1} → statement M
-inherited-rank-spec = tie.close (tie.spec named-keys-requires inherited-by-requires returns)
+inherited-rank-spec = tie.close (tie.spec named-locks-requires inherited-by-requires returns)

@@ -1,6 +1,7 @@
--- `inheritance::running_rank` meets its contract: by whom each rank names, as `running-by` says.
+-- `inheritance::running_rank` meets its contract: by the lock that each rank names, as `running-by` says.
 -- Assumes nothing.
-use mathlib.Core.Path.{sym, _∙_}
+use mathlib.Core.Path.{sym, ap, _∙_}
+use Prim.Native.Nat.{ℕ, _%_}
 use denote.Ref.{now}
 use Rattle.inheritance.specs.Inheriting.{NamedBy, running-by}
 use Rattle.rule.specs.Parts.{named-waits-parts}
@@ -9,8 +10,8 @@ use borrow.Author.Needs.{needs}
 use Rattle.inheritance.proofs.running_rank.Statement.{statement}
 use Rattle.inheritance.proofs.running_rank.Tie as tie
 
-named-keys-requires : tie.Need-named-keys-requires
-named-keys-requires c κs = search needs
+named-locks-requires : tie.Need-named-locks-requires
+named-locks-requires c κs = search needs
 
 running-by-requires : tie.Need-running-by-requires
 running-by-requires c κs = search needs
@@ -19,8 +20,8 @@ returns : tie.Need-returns
 returns c =
     let a = c .before .before .before .args in
     let s = runState (a .counts) (now (a .processor-of)) (a .active) (now (a .may-read)) (now (a .may-write)) (now (a .readers)) (now (a .writers)) (now (a .request)) in
-    let by : NamedBy (c .before .before .named-keys .result) s = (λ r p h. c .before .before .named-keys .ensures r p h ∙ sym (named-waits-parts s r)) in
-    c .running-by .ensures ∙ running-by (c .before .before .named-keys .result) s by (a .processor)
+    let by : NamedBy (c .before .before .named-locks .result) s = (λ r p h. c .before .before .named-locks .ensures r p h ∙ ap (λ (k : ℕ). k % 65536) (sym (named-waits-parts s r))) in
+    c .running-by .ensures ∙ running-by (c .before .before .named-locks .result) s by (a .processor)
 
 pub running-rank-spec : {M : Type 1} → statement M
-running-rank-spec = tie.close (tie.spec named-keys-requires running-by-requires returns)
+running-rank-spec = tie.close (tie.spec named-locks-requires running-by-requires returns)

@@ -2,7 +2,7 @@
 -- Assumes nothing.
 use mathlib.Core.Path.{_≡_, sym, subst, ap, _∙_}
 use mathlib.Core.List.{List}
-use Prim.Native.Nat.{ℕ, _≤_}
+use Prim.Native.Nat.{ℕ, _%_, _≤_}
 use native.Mathlib.Omega.{arith}
 use lib.ListN.{length}
 use denote.Ref.{now}
@@ -24,14 +24,14 @@ whole c = let a = c .args in
 
 -- the lines by what was worked out are the page
 lines-are : (c : tie.After-running-ranks) → let s = whole (c .before .before .before .before) in
-    linesBy (s .counts .jobs) (s .counts .jobs) (c .before .before .named-keys .result) (c .running-ranks .result) (s .«processor_of») (s .active) (s .request) ≡ page s
+    linesBy (s .counts .jobs) (s .counts .jobs) (c .before .before .named-locks .result) (c .running-ranks .result) (s .«processor_of») (s .active) (s .request) ≡ page s
 lines-are c =
     let s = whole (c .before .before .before .before) in
-    let by : NamedBy (c .before .before .named-keys .result) s = (λ r p h. c .before .before .named-keys .ensures r p h ∙ sym (named-waits-parts s r)) in
-    lines-by s (c .before .before .named-keys .result) (c .running-ranks .result) by (c .running-ranks .ensures) (c .before .before .before .before .pre .1)
+    let by : NamedBy (c .before .before .named-locks .result) s = (λ r p h. c .before .before .named-locks .ensures r p h ∙ ap (λ (k : ℕ). k % 65536) (sym (named-waits-parts s r))) in
+    lines-by s (c .before .before .named-locks .result) (c .running-ranks .result) by (c .running-ranks .ensures) (c .before .before .before .before .pre .1)
 
-named-keys-requires : tie.Need-named-keys-requires
-named-keys-requires c κs = search needs
+named-locks-requires : tie.Need-named-locks-requires
+named-locks-requires c κs = search needs
 
 running-ranks-requires : tie.Need-running-ranks-requires
 running-ranks-requires c κs = search needs
@@ -49,4 +49,4 @@ returns c = c .before .before .lay-lines .ensures ∙ ap (λ (text : List ℕ). 
 pub lay-page-spec : {M : Type 1} → statement M
 lay-page-spec =
     tie.close
-    (tie.spec named-keys-requires running-ranks-requires lay-lines-requires same-length returns)
+    (tie.spec named-locks-requires running-ranks-requires lay-lines-requires same-length returns)

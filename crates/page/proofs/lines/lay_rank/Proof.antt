@@ -49,17 +49,17 @@ state-letter-requires c κs = search needs
 inherited-by-requires : tie.Need-inherited-by-requires
 inherited-by-requires c κs = search needs
 
-mul-key : tie.Need-mul-key
-mul-key c = search needs
+mul-lock : tie.Need-mul-lock
+mul-lock c = search needs
 
-element-copy-out-key : tie.Need-element-copy-out-key
-element-copy-out-key c = search needs
+element-copy-out-lock : tie.Need-element-copy-out-lock
+element-copy-out-lock c = search needs
 
-key-holder-requires : tie.Need-key-holder-requires
-key-holder-requires c κs = search needs
+lock-holder-requires : tie.Need-lock-holder-requires
+lock-holder-requires c κs = search needs
 
-key-object-requires : tie.Need-key-object-requires
-key-object-requires c κs = search needs
+lock-object-requires : tie.Need-lock-object-requires
+lock-object-requires c κs = search needs
 
 lay-line-requires : tie.Need-lay-line-requires
 lay-line-requires c κs = ((c .before .before .before .before .before .before .before .before .before .before) .pre .0, omega (arith, processor-small ((c .before .before .before .before .before .before .before .before .before .before))))
@@ -74,10 +74,10 @@ returns c =
     let low = c .before .before .before .before .before .before .before .before .before .before .before .before .before .pre .1 in
     let processor = sym (at-index (now (a .processor-of)) (a .rank) low) in
     let request = sym (at-index (now (a .request)) (a .rank) low) in
-    let key = sym (at-index (now (a .named)) (a .rank) low) in
+    let lock = sym (at-index (now (a .named)) (a .rank) low) in
     let letter = c .before .before .before .before .before .before .before .before .state-letter .ensures ∙ (λ i. letterOf (getD (now (a .running)) (processor i) 0) (not (eqb (request i) 0)) (a .rank)) in
-    let holder = c .before .before .before .before .before .key-holder .ensures ∙ ap keyHolder key in
-    let object = c .before .before .before .before .key-object .ensures ∙ ap keyObject key in
+    let holder = c .before .before .before .before .before .lock-holder .ensures ∙ ap keyHolder lock in
+    let object = c .before .before .before .before .lock-object .ensures ∙ ap keyObject lock in
     c .before .before .lay-line .ensures ∙ (λ i. lineOf (a .rank) (processor i) (letter i) (c .before .before .before .before .before .before .before .inherited-by .ensures i) (holder i) (object i))
 
 pub lay-rank-spec : {M : Type 1} → statement M
@@ -93,10 +93,10 @@ lay-rank-spec =
     element-copy-out-state-letter-2
     state-letter-requires
     inherited-by-requires
-    mul-key
-    element-copy-out-key
-    key-holder-requires
-    key-object-requires
+    mul-lock
+    element-copy-out-lock
+    lock-holder-requires
+    lock-object-requires
     lay-line-requires
     same-length
     returns)

@@ -1,8 +1,8 @@
--- `inheritance::named_keys` meets its contract. The loop's invariant: the element of each rank passed is the key of the lock that it names. A turn stores one
--- more, and the number of ranks left falls.
+-- `inheritance::named_locks` meets its contract. The loop's invariant: the element of each rank passed is the lock that it names. A turn stores one more, and
+-- the number of ranks left falls.
 -- Assumes nothing.
 use mathlib.Core.Path.{_≡_, sym, ap, _∙_}
-use Prim.Native.Nat.{ℕ, _≤_, _-_, _+_}
+use Prim.Native.Nat.{ℕ, _≤_, _-_, _+_, _%_}
 use native.Mathlib.Omega.{arith}
 use lib.ListN.{length}
 use denote.Ref.{now}
@@ -13,13 +13,13 @@ use Rattle.rule.specs.Granting.{namedKeyOf, namedKey}
 use Rattle.weights.specs.Parts.{locksState}
 use Rattle.rule.specs.Parts.{waitsState, named-key-parts}
 use borrow.Author.Needs.{needs}
-use Rattle.inheritance.proofs.named_keys.Statement.{statement}
-use Rattle.inheritance.proofs.named_keys.Tie as tie
+use Rattle.inheritance.proofs.named_locks.Statement.{statement}
+use Rattle.inheritance.proofs.named_locks.Tie as tie
 
 abbrev Inv-loop : tie.InvT-loop
 Inv-loop counts may-read may-write readers writers request jobs named₀ rank₀ named rank =
     (rank ≤ jobs) × (length named ≡ mostJobs)
-    × ((j : ℕ) → 1 ≤ j → j ≤ rank → at named j ≡ namedKey (waitsState counts may-read may-write readers writers request) j)
+    × ((j : ℕ) → 1 ≤ j → j ≤ rank → at named j ≡ namedKey (waitsState counts may-read may-write readers writers request) j % 65536)
 
 abbrev μ-loop : tie.MeasureT-loop
 μ-loop counts may-read may-write readers writers request jobs named₀ rank₀ named rank = jobs - rank
@@ -42,6 +42,9 @@ element-copy-out-named-key c = search needs
 named-key-requires : tie.Need-named-key-requires Inv-loop μ-loop
 named-key-requires c κs = search needs
 
+cast-named : tie.Need-cast-named Inv-loop μ-loop
+cast-named c = search needs
+
 mul-named : tie.Need-mul-named Inv-loop μ-loop
 mul-named c = search needs
 
@@ -58,18 +61,18 @@ loop-again c =
     let s = waitsState (a .counts) (now (a .may-read)) (now (a .may-write)) (now (a .readers)) (now (a .writers)) (now (a .request)) in
     let key = lowestKey (locksState (a .counts) (now (a .may-read)) (now (a .may-write)) (now (a .readers)) (now (a .writers))) (rank + 1) in
     let named : c .named-key .result ≡ namedKey s (rank + 1) =
-    (c .named-key .ensures) ∙ ap (λ (q : ℕ). namedKeyOf q key (rank + 1)) (sym (at-next (now (a .request)) rank)) ∙ sym (named-key-parts s (rank + 1))
+    c .named-key .ensures ∙ ap (λ (q : ℕ). namedKeyOf q key (rank + 1)) (sym (at-next (now (a .request)) rank)) ∙ sym (named-key-parts s (rank + 1))
     in (
       search needs,
       search needs,
-      stored (c .before .before .before .loop .named) rank (c .named-key .result) (namedKey s) (omega (arith, c .before .before .before .loop .inv .1)) named (c .before .before .before .loop .inv .2),
+      stored (c .before .before .before .loop .named) rank (c .named-key .result % 65536) (λ j. namedKey s j % 65536) (omega (arith, c .before .before .before .loop .inv .1)) (ap (λ (k : ℕ). k % 65536) named) (c .before .before .before .loop .inv .2),
     )
 
 returns : tie.Need-returns Inv-loop μ-loop
 returns c = λ j p h. c .before .loop .inv .2 j p (omega arith)
 
-pub named-keys-spec : {M : Type 1} → statement M
-named-keys-spec =
+pub named-locks-spec : {M : Type 1} → statement M
+named-locks-spec =
     tie.close
     (tie.spec
     Inv-loop
@@ -80,6 +83,7 @@ named-keys-spec =
     mul-named-key
     element-copy-out-named-key
     named-key-requires
+    cast-named
     mul-named
     array-write-named
     loop-less
