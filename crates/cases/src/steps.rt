@@ -1,4 +1,5 @@
-// The steps of a case: events, calls on the table, questions, and changes that make a state that no events reach.
+// The steps of a case: events, calls on the table, questions, the page, and changes that make a state that no events reach.
+ghost use Prim.Native.Nat.{_≤_};
 use crate::print::say;
 use crate::print::say_answer;
 use crate::print::say_bytes;
@@ -9,6 +10,7 @@ use crate::print::say_rank;
 use crate::print::say_ranks;
 use crate::print::say_refused;
 use crate::text::number_of;
+use page::PageAnswer;
 use state::State;
 use table_writer::Written;
 
@@ -62,6 +64,37 @@ fn write_table(state: State) {
     }
     io::write_all(1, b", buffer");
     say_bytes(&buffer);
+}
+
+// The room of so many lines of the page, at most 6, less so many bytes.
+fn page_room(lines: u8, less: u8) -> usize
+    ensures { λ r. ⌜ r ≤ 126 ⌝ }
+{
+    if lines > 6 {
+        return 0;
+    }
+    let all = 21 * (lines as usize);
+    if all < less as usize {
+        return 0;
+    }
+    all - less as usize
+}
+
+// Lends the page writer the buffer; writes its answer and the buffer after it.
+fn write_page(state: State, buffer: &mut [u8]) {
+    match page::page(state, buffer) {
+        PageAnswer::Length(length) => say(b" length ", length as u64),
+        PageAnswer::Refused(number) => say_refused(number),
+    }
+    io::write_all(1, b", buffer\n");
+    io::write_all(1, buffer);
+}
+
+// P: the page in the room of so many lines, less so many bytes, full of dots.
+fn show_page(state: State, lines: u8, less: u8) {
+    let mut buffer = [b'.'; 126];
+    let room = page_room(lines, less);
+    write_page(state, &mut buffer[..room]);
 }
 
 // A question: n for the lock that the job names, i for its inherited rank, p for the rank that the processor runs, c for the object's ceilings.
@@ -131,6 +164,7 @@ fn run_step(bytes: &[u8], state: State, letter: u8, rank: u8, object: u8) -> Sta
         b'T' => read_table(bytes),
         b'E' => read_entries(bytes, rank),
         b'L' => write_table(state),
+        b'P' => show_page(state, rank, object),
         b'h' => show_holders(state),
         b'n' | b'i' | b'p' | b'c' => ask(state, letter, rank, object),
         b'+' | b'r' | b'q' | b'v' => return change(state, letter, rank, object),
