@@ -23,6 +23,7 @@ use Rattle.weights.specs.KeyLaws.{OthersLock, KeyOfOther, key-below, key-top, k
 use Rattle.rule.specs.Granting.{passes, oldPasses, namedKey}
 use Rattle.inheritance.specs.Running as R
 use Rattle.inheritance.specs.Running.{inheritedFrom, isReady, readyKey, runningRank}
+use Rattle.inheritance.specs.RunningLaws.{runKey, running-ready}
 use Rattle.events.specs.Answers.{paper}
 use Rattle.refusals.specs.Refusals.{isRequest, modeOf, refusal, processorRefusal}
 use Rattle.refusals.specs.AcceptedEvent.{not-refused}
@@ -112,34 +113,14 @@ module _ (s : State) (K : Kept s) (one : s .counts .processors ≡ 1) where
       go x false e true g z = omega (arith, simp (ne-eqb 0 j (λ y. omega arith)) at z)
       go x false e false g z = omega (arith, simp (ne-eqb (keyHolder (lowestKey s x)) j (another x (eqb-false (requestOf s x) 0 e) g)) at z)
 
-  -- the least key of the ready jobs
-  runKey : ℕ
-  runKey = least (s .counts .jobs) noKey (readyKey s 0)
-
   ready-key : (y : ℕ) → 1 ≤ y → y ≤ s .counts .jobs → isActive s y ≡ true → requestOf s y ≡ 0 → readyKey s 0 y ≡ R.inheritedRank s y * 256 + y
   ready-key y a b active free =
       let p : processorOf s y ≡ 0 = omega (arith, F .processors y a b) in
       simp (eq-eqb (processorOf s y) 0 p, active, eq-eqb (requestOf s y) 0 free)
 
-  ready-below : (y : ℕ) → 1 ≤ y → y ≤ s .counts .jobs → isActive s y ≡ true → requestOf s y ≡ 0 → runKey ≤ y * 256 + y
-  unfolding runKey
+  ready-below : (y : ℕ) → 1 ≤ y → y ≤ s .counts .jobs → isActive s y ≡ true → requestOf s y ≡ 0 → runKey s 0 ≤ y * 256 + y
   ready-below y a b active free =
       omega (arith, least-le (s .counts .jobs) noKey (readyKey s 0) y a b, ready-key y a b active free, inherits-low y)
-
-  -- whoever runs is the one of the least key
-  run-key : (j : ℕ) → 1 ≤ j → runningRank s 0 ≡ j → (runKey ≡ noKey) ⊎ (runKey ≡ R.inheritedRank s j * 256 + j)
-  unfolding runKey runningRank
-  run-key j low e = elim (least-at (s .counts .jobs) noKey (readyKey s 0)) [
-    | inl z ↦ inl z
-    | inr t ↦ go (t .0) (t .2) (isReady s 0 (t .0)) (t .3)
-  ]
-    where
-      go : (x : ℕ) → x ≤ s .counts .jobs → (b : Bool) → runKey ≡ (if b then R.inheritedRank s x * 256 + x else noKey)
-          → (runKey ≡ noKey) ⊎ (runKey ≡ R.inheritedRank s j * 256 + j)
-      go x l true z =
-          let same : x ≡ j = omega (arith, F .counts .jobs) in
-          inr (subst (λ y. runKey ≡ R.inheritedRank s y * 256 + y) same z)
-      go x l false z = inl z
 
   -- the job that runs is more urgent than each other holder
   runs-above : (j h p : ℕ) → 1 ≤ j → j ≤ s .counts .jobs → runningRank s 0 ≡ j → h ≢ j → lockWeight s h p < noWeight → j < h
@@ -156,7 +137,8 @@ module _ (s : State) (K : Kept s) (one : s .counts .processors ≡ 1) where
           let active = as-number-true (isActive s y) (K .invariant .holder y q held) in
           let below = ready-below y (rank .0) (rank .1) active free in
           let own = inherits-own j y q low held less in
-          elim (run-key j low run) [ inl e ↦ omega (arith, F .counts .jobs) | inr e ↦ omega arith ]
+          let key = running-ready s 0 j (F .counts .jobs .1) low run .key in
+          omega arith
 
       -- one that waits names the most urgent holder, which doesn't
       waiting : h < j → requestOf s h ≢ 0 → ⊥
