@@ -4,4 +4,5 @@ pub mod Page
 pub mod LineLaws
 pub mod PageLaws
 pub mod Parts
+pub mod LetterLaws
 pub mod PageTheorems

@@ -1,22 +1,21 @@
 -- What stands on the page of a well-formed state, said of the questions' own answers (02, CR 2: the sentences in quotes). First the terms, then the theorems
--- `line-shown`, `one-runs` and `waiting-letter`.
+-- `line-shown`, `waiting-letter` and `one-runs`.
 -- Assumes nothing.
 use mathlib.Core.Path.{_≡_, refl, sym, subst, ap, ap₂, _∙_}
-use mathlib.Core.Logic.{_⊎_, inl, inr}
-use mathlib.Core.Bool.{Bool, true, false, not, _&&_}
+use mathlib.Core.Bool.{Bool, true, false, _&&_}
 use mathlib.Core.List.{List, [], _∷_, _++_, append-assoc}
-use Prim.Native.Nat.{ℕ, zero, suc, _+_, _-_, _*_, _≤_, _<_}
-use native.Mathlib.Nat.{le-refl, eq-or-lt-of-le, le-of-suc-le-suc, add-zero}
+use Prim.Native.Nat.{ℕ, zero, suc, _-_, _*_, _≤_, _<_}
+use native.Mathlib.Nat.{add-zero}
 use native.Mathlib.Omega.{arith}
 use lib.Dec.{eqb}
-use borrow.Author.Tests.{eqb-true, eq-eqb, ne-eqb, lt-ltb, not-true}
-use Rattle.basics.specs.Choice.{if_then_else_, clash, same-test, and-true, and-left, and-right, inside-between}
+use lib.ListN.{getD}
+use borrow.Author.Tests.{ne-eqb, lt-ltb}
+use Rattle.basics.specs.Choice.{if_then_else_, inside-between}
 use Rattle.basics.specs.Loops.{joined, sum, oneIf, sum-same}
 use Rattle.basics.specs.JoinedLaws.{joined-split}
 use Rattle.basics.specs.Replies.{told}
 use Rattle.state.specs.declared.State.{State}
 use Rattle.state.specs.State.{mostJobs, processorOf, isActive, isWaiting}
-use Rattle.state.specs.Clauses.{clauses, counts-within}
 use Rattle.state.specs.WellFormed.{wellFormed}
 use Rattle.state.specs.Facts.{Sized, Facts}
 use Rattle.state.specs.WellFormedFacts.{facts, active-rank}
@@ -31,6 +30,7 @@ use Rattle.decimals.specs.Fields.{rightAligned}
 use Rattle.page.specs.Page.{letterOf, stateLetter, namedField, pageLine, page}
 use Rattle.page.specs.LineLaws.{column, column-front, column-behind, rank-column, processor-column, letter-column, inherited-column, holder-column, object-column}
 use Rattle.page.specs.PageLaws.{fields-fit, lines-length, state-line-length}
+use Rattle.page.specs.LetterLaws.{letter-W, letter-R, never-zero, once}
 
 -- ---- the terms
 
@@ -60,9 +60,13 @@ pub record Shown (s : State) (r : ℕ) (text : List ℕ) : Type 0 where
   pub named-rank : column text 13 3 ≡ rightAligned 3 (namedField holder holder)
   pub named-object : column text 17 3 ≡ rightAligned 3 (namedField holder object)
 
+-- the letter of an active job's line
+abbrev pub letterOnPage : State → ℕ → ℕ
+letterOnPage s r = getD (column (lineOnPage s r) 7 1) 0 0
+
 -- how many lines of processor p have the letter R
 abbrev pub runningLines : State → ℕ → ℕ
-runningLines s p = sum (s .counts .jobs) (λ r. oneIf (isActive s r && eqb (processorOf s r) p && eqb (stateLetter s r) 82))
+runningLines s p = sum (s .counts .jobs) (λ r. oneIf (isActive s r && eqb (processorOf s r) p && eqb (letterOnPage s r) 82))
 
 -- ---- a job's line on the page
 
@@ -117,74 +121,36 @@ module _ (s : State) (sized : Sized s) (well : wellFormed s ≡ true) (r : ℕ) 
         named-object = object-column _ _ _ _ _ _ fit;
       })
 
--- ---- the letters
-
-module _ (s : State) (small : s .counts .jobs ≤ mostJobs) where
-  -- who runs on its processor
-  runs-own : (p r : ℕ) → 1 ≤ r → runningRank s p ≡ r → (isActive s r ≡ true) × (processorOf s r ≡ p) × (isWaiting s r ≡ false)
-  runs-own p r low e =
-      let ready = running-ready s p r small low e .ready in
-      let own = eqb (processorOf s r) p in
-      let two = own && isActive s r in
-      let both = and-left two (not (isWaiting s r)) ready in
-      (and-right own (isActive s r) both, eqb-true (processorOf s r) p (and-left own (isActive s r) both), not-true _ (and-right two (not (isWaiting s r)) ready))
+  letter-on-page : letterOnPage s r ≡ stateLetter s r
+  letter-on-page =
+      ap (λ (text : List ℕ). getD (column text 7 1) 0 0) line-at
+      ∙ ap (λ (text : List ℕ). getD text 0 0) (letter-column _ _ _ _ _ _ (fields-fit s F r (in-table .0) (in-table .1)))
 
   -- "W waits": also where the job names nobody
-  pub waiting-letter : (r : ℕ) → 1 ≤ r → isWaiting s r ≡ true → stateLetter s r ≡ 87
-  waiting-letter r low w = go (eqb (runningRank s (processorOf s r)) r) refl
-    where
-      go : (b : Bool) → eqb (runningRank s (processorOf s r)) r ≡ b → stateLetter s r ≡ 87
-      go true e = absurd (clash w (runs-own (processorOf s r) r low (eqb-true _ r e) .2))
-      go false e = simp (e, w)
+  pub waiting-letter : isWaiting s r ≡ true → letterOnPage s r ≡ 87
+  waiting-letter w = letter-on-page ∙ letter-W s (F .counts .jobs .1) r (in-table .0) w
 
-  -- a line of processor p has the letter R just where p runs its rank
-  letter-R : (p r : ℕ) → 1 ≤ r → isActive s r && eqb (processorOf s r) p && eqb (stateLetter s r) 82 ≡ eqb (runningRank s p) r
-  letter-R p r low =
-      same-test (isActive s r && eqb (processorOf s r) p && eqb (stateLetter s r) 82) (eqb (runningRank s p) r)
-      (λ t. let two = isActive s r && eqb (processorOf s r) p in
-      let own = eqb-true (processorOf s r) p (and-right (isActive s r) (eqb (processorOf s r) p) (and-left two _ t)) in
-      ap (λ (q : ℕ). eqb (runningRank s q) r) (sym own) ∙ runs (eqb (runningRank s (processorOf s r)) r) (isWaiting s r) (and-right two _ t))
-      (λ t. let own = runs-own p r low (eqb-true (runningRank s p) r t) in
-      let here = ap (λ (q : ℕ). eqb (runningRank s q) r) (own .1) ∙ t in
-      simp (own .0, eq-eqb (processorOf s r) p (own .1), here))
-    where
-      runs : (b w : Bool) → eqb (if b then 82 else if w then 87 else 73) 82 ≡ true → b ≡ true
-      runs true w t = refl
-      runs false true t = absurd (clash t refl)
-      runs false false t = absurd (clash t refl)
+-- ---- the letters on the page
 
--- how often a number is one of 1, .., n: not above them, not if it is 0, else once
-never-above : (n x : ℕ) → n < x → sum n (λ r. oneIf (eqb x r)) ≡ 0
-unfolding sum
-never-above zero x h = refl
-never-above (suc n) x h = let here = ne-eqb x (suc n) (λ e. omega arith) in simp here (omega (arith, never-above n x (omega arith)))
+module _ (s : State) (sized : Sized s) (well : wellFormed s ≡ true) (p : ℕ) (is-processor : p < s .counts .processors) where
+  small : s .counts .jobs ≤ mostJobs
+  small = facts s sized well .counts .jobs .1
 
-never-zero : (n : ℕ) → sum n (λ r. oneIf (eqb 0 r)) ≡ 0
-unfolding sum
-never-zero zero = refl
-never-zero (suc n) = let here = ne-eqb 0 (suc n) (λ e. omega arith) in simp here (omega (arith, never-zero n))
+  shows-R : (r : ℕ) (b : Bool) → isActive s r ≡ b
+      → isActive s r && eqb (processorOf s r) p && eqb (letterOnPage s r) 82 ≡ isActive s r && eqb (processorOf s r) p && eqb (stateLetter s r) 82
+  shows-R r true e = ap (λ (l : ℕ). isActive s r && eqb (processorOf s r) p && eqb l 82) (letter-on-page s sized well r e)
+  shows-R r false e = simp e
 
-once : (n x : ℕ) → 1 ≤ x → x ≤ n → sum n (λ r. oneIf (eqb x r)) ≡ 1
-unfolding sum
-once zero x low high = absurd (omega arith)
-once (suc n) x low high = go (once n x low) (eq-or-lt-of-le high)
-  where
-    go : (x ≤ n → sum n (λ r. oneIf (eqb x r)) ≡ 1) → (x ≡ suc n) ⊎ (x < suc n) → sum n (λ r. oneIf (eqb x r)) + oneIf (eqb x (suc n)) ≡ 1
-    go rest (inl e) = let here = eq-eqb x (suc n) e in simp here (omega (arith, never-above n x (omega arith)))
-    go rest (inr l) = let here = ne-eqb x (suc n) (λ e. omega arith) in simp here (omega (arith, rest (omega arith)))
+  lines-are : runningLines s p ≡ sum (s .counts .jobs) (λ r. oneIf (eqb (runningRank s p) r))
+  lines-are = sum-same (s .counts .jobs) _ _ (λ r a b. ap oneIf (shows-R r (isActive s r) refl ∙ letter-R s small p r a))
 
--- exactly one R for each processor that is not idle, and none for one that is
-pub one-runs : (s : State) (p : ℕ) → wellFormed s ≡ true → p < s .counts .processors
-    → (runs : ℕ) × (rankReply (askRunning s p) ≡ told (runs ∷ [])) × (runningLines s p ≡ (if eqb runs 0 then 0 else 1))
-unfolding askRunning processorRefusal
-one-runs s p well h = (runningRank s p, simp (well, lt-ltb p (s .counts .processors) h), lines ∙ count (runningRank s p) refl)
-  where
-    small : s .counts .jobs ≤ mostJobs
-    small = counts-within (s .counts) (clauses s well .counts) .jobs .1
+  count : (x : ℕ) → runningRank s p ≡ x → sum (s .counts .jobs) (λ r. oneIf (eqb x r)) ≡ (if eqb x 0 then 0 else 1)
+  count zero e = never-zero (s .counts .jobs)
+  count (suc x) e =
+      once (s .counts .jobs) (suc x) (omega arith) (running-ready s p (suc x) small (omega arith) e .in-table)
+      ∙ sym (simp (ne-eqb (suc x) 0 (λ z. omega arith)))
 
-    lines : runningLines s p ≡ sum (s .counts .jobs) (λ r. oneIf (eqb (runningRank s p) r))
-    lines = sum-same (s .counts .jobs) _ _ (λ r a b. ap oneIf (letter-R s small p r a))
-
-    count : (x : ℕ) → runningRank s p ≡ x → sum (s .counts .jobs) (λ r. oneIf (eqb x r)) ≡ (if eqb x 0 then 0 else 1)
-    count zero e = never-zero (s .counts .jobs)
-    count (suc x) e = once (s .counts .jobs) (suc x) (omega arith) (running-ready s p (suc x) small (omega arith) e .in-table) ∙ sym (simp (ne-eqb (suc x) 0 (λ z. omega arith)))
+  -- exactly one R for each processor that is not idle, and none for one that is
+  pub one-runs : (runs : ℕ) × (rankReply (askRunning s p) ≡ told (runs ∷ [])) × (runningLines s p ≡ (if eqb runs 0 then 0 else 1))
+  unfolding askRunning processorRefusal
+  one-runs = (runningRank s p, simp (well, lt-ltb p (s .counts .processors) is-processor), lines-are ∙ count (runningRank s p) refl)

@@ -22,7 +22,7 @@ use Rattle.weights.specs.Keys.{noWeight, noKey, keyWeight, keyHolder, lowestKey
 use Rattle.weights.specs.KeyLaws.{OthersLock, KeyOfOther, key-below, key-top, key-at, le-key}
 use Rattle.rule.specs.Granting.{passes, oldPasses, namedKey}
 use Rattle.inheritance.specs.Running as R
-use Rattle.inheritance.specs.Running.{inheritedFrom, isReady, readyKey, runningRank}
+use Rattle.inheritance.specs.Running.{inheritedFrom, readyKey, runningRank}
 use Rattle.inheritance.specs.RunningLaws.{runKey, running-ready}
 use Rattle.events.specs.Answers.{paper}
 use Rattle.refusals.specs.Refusals.{isRequest, modeOf, refusal, processorRefusal}

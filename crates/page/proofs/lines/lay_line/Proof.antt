@@ -1,11 +1,9 @@
 -- `page::lines::lay_line` meets its contract: its fields stand one behind the other and fill the 21 bytes.
 -- Assumes nothing.
-use mathlib.Core.Path.{_≡_, sym, ap, _∙_}
+use mathlib.Core.Path.{sym, ap, _∙_}
 use mathlib.Core.List.{List, [], _∷_, _++_}
 use native.Mathlib.Nat.{le-refl}
 use native.Mathlib.Omega.{arith}
-use lib.ListN.{length}
-use denote.Ref.{now}
 use Rattle.decimals.specs.Decimal.{decimal, decimal-length}
 use Rattle.decimals.specs.Fields.{space, lineFeed, rightAligned, aligned-wider}
 use Rattle.decimals.specs.Laid.{laid-then, laid-is, laid-whole}

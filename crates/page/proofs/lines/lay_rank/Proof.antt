@@ -1,6 +1,6 @@
 -- `page::lines::lay_rank` meets its contract: the fields are those of the rank, counted from 1 where the arrays count from 0.
 -- Assumes nothing.
-use mathlib.Core.Path.{_≡_, sym, subst, ap, _∙_}
+use mathlib.Core.Path.{sym, subst, ap, _∙_}
 use mathlib.Core.Bool.{not}
 use Prim.Native.Nat.{ℕ, _-_, _<_}
 use native.Mathlib.Omega.{arith}
