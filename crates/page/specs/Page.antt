@@ -19,14 +19,14 @@ use Rattle.decimals.specs.Laid.{atFront}
 
 -- ---- fields
 
--- "state letter in 1 (R runs, W waits, I is ready)"; "R goes to the rank its question gives": of rank r, whose processor runs this rank, and which waits or not
+-- "state letter in 1 (R runs, W waits, I is ready)"; "R goes to the rank its question gives": of rank r, whose processor runs the rank `runs`
 abbrev pub letterOf : (runs : ℕ) (waits : Bool) (r : ℕ) → ℕ
 letterOf runs waits r = if eqb runs r then 82 else if waits then 87 else 73
 
 abbrev pub stateLetter : State → ℕ → ℕ
 stateLetter s r = letterOf (runningRank s (processorOf s r)) (isWaiting s r) r
 
--- "The last two are blank for a job that names nobody.": a number of the lock that this rank holds, nothing where it is 0
+-- "The last two are blank for a job that names nobody.": the holder or the object of the named lock, blank where the holder is 0
 abbrev pub namedField : (holder number : ℕ) → List ℕ
 namedField holder number = if eqb holder 0 then [] else decimal number
 

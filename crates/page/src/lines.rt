@@ -53,7 +53,7 @@ pub fn running_ranks<'a>(
     running
 }
 
-// The letter of the rank, with its request, on a processor that runs this rank: R runs, W waits, I is ready.
+// The letter of a rank with this request, whose processor runs the rank `runs`: R runs, W waits, I is ready.
 fn state_letter(runs: u8, request: u16, rank: u8) -> u8
     ensures { λ r. ⌜ r ≡ letterOf runs (not (eqb request 0)) rank ⌝ }
 {
@@ -75,7 +75,7 @@ fn lay_field(buf: &mut [u8], at: usize, number: u8) -> usize
     lay_aligned(buf, end, number)
 }
 
-// The same of a number of the lock that the holder has; blank where the holder is 0.
+// The same of the holder or the object of a named lock; blank where the holder is 0, nobody.
 fn lay_named(buf: &mut [u8], at: usize, holder: u8, number: u8) -> usize
     requires { ⌜ at + 4 ≤ length (now buf) ⌝ }
     ensures { λ r. ⌜ Laid (now (buf .entry)) (now (buf .exit)) at r 4 (space ∷ rightAligned 3 (namedField holder number)) ⌝ }

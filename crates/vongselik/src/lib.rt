@@ -1,4 +1,4 @@
-// The lock manager for C: events, questions and tables on the parts of a state of the caller's, each lent by itself.
+// The lock manager for C: events, questions, tables and the state page on the parts of a state of the caller's, each lent by itself.
 ghost use mathlib.Core.Path.{_≡_};
 ghost use Rattle.state.specs.State.{countsOf, stateOf};
 ghost use Rattle.events.specs.Answers.{paper};
@@ -19,7 +19,7 @@ use state::Sets;
 use state::SetsMut;
 use state::fits;
 
-// An event: its answer packed into a number that can be taken apart again, and the parts of the next state. A refusal, by 8 to 18, leaves every part as it was.
+// An event: its answer packed into a number that can be taken apart again, and the parts of the next state. A refusal, by 8 to 18 or 21, leaves every part as it was.
 #[no_mangle]
 pub extern "C" fn vongselik_parts_event<'a>(
     processors: u8,
