@@ -1,15 +1,16 @@
 -- Arrays whose elements count from 1: element 0, and an element past the last, is 0, and a store there changes nothing.
 -- Assumes nothing.
 use mathlib.Core.Path.{_≡_, refl, sym, ap, _∙_}
-use mathlib.Core.Logic.{_≢_, _⊎_, inl, inr}
+use mathlib.Core.Logic.{_≢_}
+use mathlib.Core.Bool.{Bool, true, false}
 use mathlib.Core.List.{List, [], _∷_, _++_}
 use Prim.Native.Nat.{ℕ, zero, suc, _+_, _-_, _≤_, _<_}
-use native.Mathlib.Nat.{eq-or-lt-of-le}
 use native.Mathlib.Numerals.{add-one}
 use native.Mathlib.Omega.{arith}
-use native.Mathlib.Decide.{decLe}
+use native.Mathlib.Decide.{decLe, ℕ-discrete}
 use lib.ListN.{length, getD, set, take, replicate, length-set, List·getD-eq-default}
 use lib.Seq.{getD-set-same, getD-set-other, length-take-le, take-suc, append-snoc, set-at}
+use Rattle.basics.specs.Choice.{if_then_else_, between, same-test, between-true, inside-between}
 
 -- element k
 abbrev pub at : List ℕ → ℕ → ℕ
@@ -55,16 +56,43 @@ at-out xs n (suc i) e d = List·getD-eq-default xs 0 (outside (decLe n i))
 pub at-next : (xs : List ℕ) (n : ℕ) → at xs (n + 1) ≡ getD xs n 0
 at-next xs n = rw add-one
 
--- one element more that is what it should be
-pub stored : (xs : List ℕ) (n v : ℕ) (f : ℕ → ℕ) → n < length xs → v ≡ f (n + 1) → ((k : ℕ) → 1 ≤ k → k ≤ n → at xs k ≡ f k)
-    → (k : ℕ) → 1 ≤ k → k ≤ n + 1 → at (set xs n v) k ≡ f k
-stored xs n v f h e below k a b = go (eq-or-lt-of-le b)
+-- ---- an array of zeros
+
+pub at-zeros : (n k : ℕ) → at (replicate n 0) k ≡ 0
+at-zeros n zero = refl
+at-zeros zero (suc i) = refl
+at-zeros (suc n) (suc zero) = refl
+at-zeros (suc n) (suc (suc i)) = at-zeros n (suc i)
+
+-- ---- an array whose elements 1, .., n are those of f, and the others 0
+
+abbrev pub FilledTo : List ℕ → ℕ → (ℕ → ℕ) → Type 0
+FilledTo xs n f = (k : ℕ) → at xs k ≡ (if between 1 n k then f k else 0)
+
+pub filled-none : (m : ℕ) (f : ℕ → ℕ) → FilledTo (replicate m 0) 0 f
+filled-none m f k = go (between 1 0 k) refl
   where
-    go : (k ≡ n + 1) ⊎ (k < n + 1) → at (set xs n v) k ≡ f k
-    go (inl q) =
-        let here : k ≡ suc n = q ∙ add-one n in
-        ap (at (set xs n v)) here ∙ at-put-same xs (suc n) v (omega arith) h ∙ e ∙ ap f (sym q)
-    go (inr l) = at-put-other xs (suc n) v k (λ q. omega arith) ∙ below k a (omega arith)
+    go : (b : Bool) → between 1 0 k ≡ b → at (replicate m 0) k ≡ (if b then f k else 0)
+    go true e = absurd (omega (arith, between-true 1 0 k e))
+    go false e = at-zeros m k
+
+-- one more
+pub filled-more : (xs : List ℕ) (n v : ℕ) (f : ℕ → ℕ) → n < length xs → v ≡ f (n + 1) → FilledTo xs n f → FilledTo (set xs n v) (n + 1) f
+filled-more xs n v f h e filled k = elim (ℕ-discrete k (suc n)) [ yes q ↦ here q | no d ↦ other d ]
+  where
+    here : k ≡ suc n → at (set xs n v) k ≡ (if between 1 (n + 1) k then f k else 0)
+    here q =
+        let inside = inside-between 1 (n + 1) k (omega arith) (omega arith) in
+        ap (at (set xs n v)) q ∙ at-put-same xs (suc n) v (omega arith) h ∙ e ∙ ap f (add-one n ∙ sym q) ∙ sym (simp inside)
+
+    same : k ≢ suc n → between 1 n k ≡ between 1 (n + 1) k
+    same d =
+        same-test (between 1 n k) (between 1 (n + 1) k)
+        (λ t. let l = between-true 1 n k t in inside-between 1 (n + 1) k (l .0) (omega (arith, l .1)))
+        (λ t. let l = between-true 1 (n + 1) k t in inside-between 1 n k (l .0) (omega (arith, l .1, d)))
+
+    other : k ≢ suc n → at (set xs n v) k ≡ (if between 1 (n + 1) k then f k else 0)
+    other d = at-put-other xs (suc n) v k (λ z. d (sym z)) ∙ filled k ∙ ap (λ (b : Bool). if b then f k else 0) (same d)
 
 -- ---- an array gone through f
 
@@ -103,14 +131,6 @@ at-index xs (suc i) h = let back : i ≡ suc i - 1 = omega arith in ap (λ (j : 
 pub put-index : (xs : List ℕ) (k v : ℕ) → 1 ≤ k → put xs k v ≡ set xs (k - 1) v
 put-index xs zero v h = absurd (omega arith)
 put-index xs (suc i) v h = let back : i ≡ suc i - 1 = omega arith in ap (λ (j : ℕ). set xs j v) back
-
--- ---- an array of zeros
-
-pub at-zeros : (n k : ℕ) → at (replicate n 0) k ≡ 0
-at-zeros n zero = refl
-at-zeros zero (suc i) = refl
-at-zeros (suc n) (suc zero) = refl
-at-zeros (suc n) (suc (suc i)) = at-zeros n (suc i)
 
 -- ---- a turn of a loop that copies s to the front of an array of zeros
 

@@ -8,8 +8,8 @@ use Prim.Native.Nat.{ℕ, _+_, _*_, _%_, _≤_}
 use native.Mathlib.Omega.{arith}
 use lib.Dec.{eqb}
 use borrow.Author.Tests.{ne-eqb}
-use Rattle.basics.specs.Arrays.{at}
-use Rattle.basics.specs.Choice.{if_then_else_}
+use Rattle.basics.specs.Arrays.{at, FilledTo}
+use Rattle.basics.specs.Choice.{if_then_else_, inside-between}
 use Rattle.basics.specs.Loops.{least, least-same}
 use Rattle.ranks.specs.Ranks.{member}
 use Rattle.state.specs.declared.State.{State}
@@ -18,9 +18,9 @@ use Rattle.weights.specs.Keys.{noKey, keyHolder, keyObject}
 use Rattle.rule.specs.Granting.{namedKey, namedHolder, namedObject}
 use Rattle.inheritance.specs.Running.{inheritedFrom, inheritedRank, isReady, readyKey, runningRank}
 
--- each job's element is the lock that it names: the lock's key without the weight
+-- each job's element is the lock that it names, by its key without the weight; those behind the last job are 0
 abbrev pub NamedBy : List ℕ → State → Type 0
-NamedBy named s = (r : ℕ) → 1 ≤ r → r ≤ s .counts .jobs → at named r ≡ namedKey s r % 65536
+NamedBy named s = FilledTo named (s .counts .jobs) (λ r. namedKey s r % 65536)
 
 -- r if it names j, else j
 abbrev pub heir : ℕ → ℕ → ℕ → ℕ
@@ -52,11 +52,14 @@ names-waiting s j r p = go (isWaiting s r) refl
     go false e = let none : eqb 0 j ≡ false = ne-eqb 0 j (λ z. omega arith) in rw (e, none)
 
 module _ (named : List ℕ) (s : State) (by : NamedBy named s) where
+  lock-by : (r : ℕ) → 1 ≤ r → r ≤ s .counts .jobs → at named r ≡ namedKey s r % 65536
+  lock-by r a b = by r ∙ simp (inside-between 1 (s .counts .jobs) r a b)
+
   pub named-holder-by : (r : ℕ) → 1 ≤ r → r ≤ s .counts .jobs → keyHolder (at named r) ≡ namedHolder s r
-  named-holder-by r a b = let lock = by r a b in omega arith
+  named-holder-by r a b = let lock = lock-by r a b in omega arith
 
   pub named-object-by : (r : ℕ) → 1 ≤ r → r ≤ s .counts .jobs → keyObject (at named r) ≡ namedObject s r
-  named-object-by r a b = let lock = by r a b in omega arith
+  named-object-by r a b = let lock = lock-by r a b in omega arith
 
   pub inherited-by : (j : ℕ) → 1 ≤ j → inheritedBy (s .counts .jobs) named j ≡ inheritedRank s j
   unfolding inheritedBy inheritedRank

@@ -4,12 +4,12 @@
 use mathlib.Core.Path.{_≡_, refl, ap, _∙_}
 use mathlib.Core.Bool.{Bool, true, false, not}
 use mathlib.Core.List.{List, [], _++_, append-nil}
-use Prim.Native.Nat.{ℕ, _+_, _≤_, _<_}
+use Prim.Native.Nat.{ℕ, suc, _+_, _-_, _≤_, _<_}
 use native.Mathlib.Omega.{arith}
 use lib.Dec.{eqb}
 use lib.ListN.{length, getD, length-append}
-use Rattle.basics.specs.Arrays.{at}
-use Rattle.basics.specs.Choice.{if_then_else_}
+use Rattle.basics.specs.Arrays.{at, FilledTo}
+use Rattle.basics.specs.Choice.{if_then_else_, inside-between}
 use Rattle.basics.specs.Loops.{joined, joined-more, least-top}
 use Rattle.basics.specs.JoinedLaws.{joined-same, joined-grows}
 use Rattle.ranks.specs.Ranks.{member}
@@ -29,9 +29,10 @@ use Rattle.page.specs.LineLaws.{line-length}
 abbrev pub ProcessorsFit : Counts → List ℕ → Type 0
 ProcessorsFit counts processorOf = (r : ℕ) → 1 ≤ r → r ≤ counts .jobs → at processorOf r < counts .processors
 
--- each processor's element is the rank that it runs
+-- each processor's element is the rank that it runs, and those behind the last processor are 0; processors count from 0, the array's elements from 1
 abbrev pub RunsBy : List ℕ → Counts → List ℕ → List ℕ → ℕ → List ℕ → Type 0
-RunsBy running counts named processorOf active request = (p : ℕ) → p < counts .processors → getD running p 0 ≡ runningBy (counts .jobs) named processorOf active request p
+RunsBy running counts named processorOf active request =
+    FilledTo running (counts .processors) (λ k. runningBy (counts .jobs) named processorOf active request (k - 1))
 
 -- the line of rank r
 unfoldable pub lineBy : (jobs : ℕ) (named running processorOf request : List ℕ) → ℕ → List ℕ
@@ -85,10 +86,17 @@ module _ (jobs : ℕ) (named running processorOf : List ℕ) (active : ℕ) (req
 
 module _ (s : State) (named running : List ℕ) (by : NamedBy named s) (runs : RunsBy running (s .counts) named (s .«processor_of») (s .active) (s .request))
     (fit : ProcessorsFit (s .counts) (s .«processor_of»)) where
+  runs-by : (p : ℕ) → p < s .counts .processors → getD running p 0 ≡ runningRank s p
+  runs-by p h =
+      let back : suc p - 1 ≡ p = omega arith in
+      let inside = inside-between 1 (s .counts .processors) (suc p) (omega arith) h in
+      let here : getD running p 0 ≡ runningBy (s .counts .jobs) named (s .«processor_of») (s .active) (s .request) (suc p - 1) = runs (suc p) ∙ simp inside in
+      here ∙ running-by named s by (suc p - 1) ∙ ap (runningRank s) back
+
   line-by : (r : ℕ) → 1 ≤ r → r ≤ s .counts .jobs → lineBy (s .counts .jobs) named running (s .«processor_of») (s .request) r ≡ pageLine s r
   unfolding lineBy
   line-by r a b =
-      let running-is = runs (processorOf s r) (fit r a b) ∙ running-by named s by (processorOf s r) in
+      let running-is = runs-by (processorOf s r) (fit r a b) in
       λ i. lineOf r (processorOf s r) (letterOf (running-is i) (isWaiting s r) r) (inherited-by named s by r a i) (named-holder-by named s by r a b i) (named-object-by named s by r a b i)
 
   pub lines-by : linesBy (s .counts .jobs) (s .counts .jobs) named running (s .«processor_of») (s .active) (s .request) ≡ page s

@@ -1,12 +1,12 @@
--- `inheritance::named_locks` meets its contract. The loop's invariant: the element of each rank passed is the lock that it names. A turn stores one more, and
--- the number of ranks left falls.
+-- `inheritance::named_locks` meets its contract. The loop's invariant: the element of each rank passed is the lock that it names, and the others are 0. A turn
+-- stores one more, and the number of ranks left falls.
 -- Assumes nothing.
-use mathlib.Core.Path.{_≡_, sym, ap, _∙_}
+use mathlib.Core.Path.{_≡_, sym, subst, ap, _∙_}
 use Prim.Native.Nat.{ℕ, _≤_, _-_, _+_, _%_}
 use native.Mathlib.Omega.{arith}
 use lib.ListN.{length}
 use denote.Ref.{now}
-use Rattle.basics.specs.Arrays.{at, at-next, stored}
+use Rattle.basics.specs.Arrays.{at-next, FilledTo, filled-none, filled-more}
 use Rattle.state.specs.State.{mostJobs}
 use Rattle.weights.specs.Keys.{lowestKey}
 use Rattle.rule.specs.Granting.{namedKeyOf, namedKey}
@@ -19,13 +19,13 @@ use Rattle.inheritance.proofs.named_locks.Tie as tie
 abbrev Inv-loop : tie.InvT-loop
 Inv-loop counts may-read may-write readers writers request jobs named₀ rank₀ named rank =
     (rank ≤ jobs) × (length named ≡ mostJobs)
-    × ((j : ℕ) → 1 ≤ j → j ≤ rank → at named j ≡ namedKey (waitsState counts may-read may-write readers writers request) j % 65536)
+    × FilledTo named rank (λ j. namedKey (waitsState counts may-read may-write readers writers request) j % 65536)
 
 abbrev μ-loop : tie.MeasureT-loop
 μ-loop counts may-read may-write readers writers request jobs named₀ rank₀ named rank = jobs - rank
 
 loop-holds : tie.Need-loop-holds Inv-loop μ-loop
-loop-holds c = (search needs, search needs, λ j a b. absurd (omega arith))
+loop-holds c = (search needs, search needs, filled-none mostJobs _)
 
 cast-i : tie.Need-cast-i Inv-loop μ-loop
 cast-i c = search needs
@@ -65,11 +65,15 @@ loop-again c =
     in (
       search needs,
       search needs,
-      stored (c .before .before .before .loop .named) rank (c .named-key .result % 65536) (λ j. namedKey s j % 65536) (omega (arith, c .before .before .before .loop .inv .1)) (ap (λ (k : ℕ). k % 65536) named) (c .before .before .before .loop .inv .2),
+      filled-more (c .before .before .before .loop .named) rank (c .named-key .result % 65536) (λ j. namedKey s j % 65536) (omega (arith, c .before .before .before .loop .inv .1)) (ap (λ (k : ℕ). k % 65536) named) (c .before .before .before .loop .inv .2),
     )
 
 returns : tie.Need-returns Inv-loop μ-loop
-returns c = λ j p h. c .before .loop .inv .2 j p (omega arith)
+returns c =
+    let a = c .before .before .args in
+    let all : c .before .loop .rank ≡ a .counts .jobs = omega arith in
+    subst (λ (n : ℕ). FilledTo (c .before .loop .named) n (λ j. namedKey (waitsState (a .counts) (now (a .may-read)) (now (a .may-write)) (now (a .readers)) (now (a .writers)) (now (a .request))) j % 65536)) all
+    (c .before .loop .inv .2)
 
 pub named-locks-spec : {M : Type 1} → statement M
 named-locks-spec =

@@ -4,6 +4,8 @@ use mathlib.Core.Path.{sym, ap, _∙_}
 use Prim.Native.Nat.{ℕ, _%_}
 use denote.Ref.{now}
 use Rattle.inheritance.specs.Inheriting.{NamedBy, running-by}
+use Rattle.basics.specs.Choice.{if_then_else_}
+use Rattle.state.specs.State.{isRank}
 use Rattle.rule.specs.Parts.{named-waits-parts}
 use Rattle.inheritance.specs.Parts.{runState}
 use borrow.Author.Needs.{needs}
@@ -20,7 +22,7 @@ returns : tie.Need-returns
 returns c =
     let a = c .before .before .before .args in
     let s = runState (a .counts) (now (a .processor-of)) (a .active) (now (a .may-read)) (now (a .may-write)) (now (a .readers)) (now (a .writers)) (now (a .request)) in
-    let by : NamedBy (c .before .before .named-locks .result) s = (λ r p h. c .before .before .named-locks .ensures r p h ∙ ap (λ (k : ℕ). k % 65536) (sym (named-waits-parts s r))) in
+    let by : NamedBy (c .before .before .named-locks .result) s = (λ r. c .before .before .named-locks .ensures r ∙ ap (λ (k : ℕ). if isRank s r then k % 65536 else 0) (sym (named-waits-parts s r))) in
     c .running-by .ensures ∙ running-by (c .before .before .named-locks .result) s by (a .processor)
 
 pub running-rank-spec : {M : Type 1} → statement M

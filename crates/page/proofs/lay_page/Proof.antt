@@ -6,6 +6,8 @@ use Prim.Native.Nat.{ℕ, _%_, _≤_}
 use lib.ListN.{length}
 use denote.Ref.{now}
 use Rattle.state.specs.declared.State.{State}
+use Rattle.basics.specs.Choice.{if_then_else_}
+use Rattle.state.specs.State.{isRank}
 use Rattle.rule.specs.Parts.{named-waits-parts}
 use Rattle.inheritance.specs.Inheriting.{NamedBy}
 use Rattle.inheritance.specs.Parts.{runState}
@@ -26,7 +28,7 @@ lines-are : (c : tie.After-running-ranks) → let s = whole (c .before .before .
     linesBy (s .counts .jobs) (s .counts .jobs) (c .before .before .named-locks .result) (c .running-ranks .result) (s .«processor_of») (s .active) (s .request) ≡ page s
 lines-are c =
     let s = whole (c .before .before .before .before) in
-    let by : NamedBy (c .before .before .named-locks .result) s = (λ r p h. c .before .before .named-locks .ensures r p h ∙ ap (λ (k : ℕ). k % 65536) (sym (named-waits-parts s r))) in
+    let by : NamedBy (c .before .before .named-locks .result) s = (λ r. c .before .before .named-locks .ensures r ∙ ap (λ (k : ℕ). if isRank s r then k % 65536 else 0) (sym (named-waits-parts s r))) in
     lines-by s (c .before .before .named-locks .result) (c .running-ranks .result) by (c .running-ranks .ensures) (c .before .before .before .before .pre .1)
 
 named-locks-requires : tie.Need-named-locks-requires
