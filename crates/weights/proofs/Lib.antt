@@ -1,2 +1,3 @@
+mod TopBits
 mod Firsts
 mod Sets

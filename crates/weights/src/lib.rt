@@ -15,10 +15,16 @@ use state::Sets;
 pub const NO_KEY: u64 = 257 * 65536;
 
 // The more urgent of two ranks or ceilings.
+// The top bit of `apart` is 1 where the first is it, else 0.
 pub fn more_urgent(a: u16, b: u16) -> u16
     ensures { λ r. ⌜ r ≡ W.moreUrgent a b ⌝ }
 {
-    if a < b { a } else { b }
+    let first = a as u32;
+    let second = b as u32;
+    let apart = 0x8000_0000 + second - first;
+    let is_first = apart >> 31;
+    let is_second = (0xffff_ffff - apart) >> 31;
+    (first * is_first + second * is_second) as u16
 }
 
 // The most urgent rank of the set, and 65 for nobody.

@@ -1,0 +1,51 @@
+-- The lower of two numbers, without a test of which it is: the top bit of their difference chooses.
+-- A word has k + 1 bits, its top bit is the one above k others.
+-- Assumes nothing.
+use mathlib.Core.Path.{_≡_, refl, ap, ap₂, _∙_}
+use mathlib.Core.Bool.{Bool, true, false}
+use Prim.Native.Nat.{ℕ, zero, suc, _+_, _-_, _*_, _/_, _^_, _≤_, _<_, min}
+use native.Mathlib.Nat.{pow-suc}
+use native.Mathlib.Omega.{arith}
+use lib.Dec.{leb}
+use lib.Pow.{high}
+use borrow.Author.Tests.{leb-true, leb-false}
+
+top-set : (k n low : ℕ) → low < 2 ^ k → n ≡ 1 * 2 ^ k + low → n / 2 ^ k ≡ 1
+top-set k n low h e = ap (λ (x : ℕ). x / 2 ^ k) e ∙ high 1 k h
+
+top-clear : (k n : ℕ) → n < 2 ^ k → n / 2 ^ k ≡ 0
+top-clear k n h =
+    let e : n ≡ 0 * 2 ^ k + n = omega arith in
+    ap (λ (x : ℕ). x / 2 ^ k) e ∙ high 0 k h
+
+-- a where the top bit of 2 ^ k + b - a is 1, and b where it is 0
+pub lower-by-top-bit : (k a b x : ℕ) → a < 2 ^ k → b < 2 ^ k → x ≡ 2 ^ k + b - a → a * (x / 2 ^ k) + b * ((2 ^ suc k - 1 - x) / 2 ^ k) ≡ min a b
+lower-by-top-bit k a b x ha hb e = go (leb a b) refl
+  where
+    go : (t : Bool) → leb a b ≡ t → a * (x / 2 ^ k) + b * ((2 ^ suc k - 1 - x) / 2 ^ k) ≡ min a b
+    go true t =
+        let l = leb-true a b t in
+        ap₂
+        (λ (m n : ℕ). a * m + b * n)
+        (top-set k x (b - a) (omega arith) (omega arith))
+        (top-clear k (2 ^ suc k - 1 - x) (omega (arith, pow-suc 2 k)))
+        ∙ omega arith
+    go false t =
+        let l = leb-false a b t in
+        ap₂
+        (λ (m n : ℕ). a * m + b * n)
+        (top-clear k x (omega arith))
+        (top-set k (2 ^ suc k - 1 - x) (a - suc b) (omega arith) (omega (arith, pow-suc 2 k)))
+        ∙ omega arith
+
+-- ---- a number times a bit, and two of which one at most is taken, are no larger
+
+pub times-bit : {m n : ℕ} (t : ℕ) → n < m → t ≤ 1 → n * t < m
+times-bit zero h l = omega arith
+times-bit (suc zero) h l = omega arith
+times-bit (suc (suc t)) h l = absurd (omega arith)
+
+pub one-taken : {m a b : ℕ} (s t : ℕ) → a < m → b < m → s + t ≤ 1 → a * s + b * t < m
+one-taken zero t ha hb h = omega (arith, times-bit t hb (omega arith))
+one-taken (suc s) zero ha hb h = omega (arith, times-bit (suc s) ha (omega arith))
+one-taken (suc s) (suc t) ha hb h = absurd (omega arith)
