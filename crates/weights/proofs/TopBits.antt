@@ -3,8 +3,8 @@
 -- Assumes nothing.
 use mathlib.Core.Path.{_≡_, refl, ap, ap₂, _∙_}
 use mathlib.Core.Bool.{Bool, true, false}
-use Prim.Native.Nat.{ℕ, zero, suc, _+_, _-_, _*_, _/_, _^_, _≤_, _<_, min}
-use native.Mathlib.Nat.{pow-suc}
+use Prim.Native.Nat.{ℕ, suc, _+_, _-_, _*_, _/_, _^_, _≤_, _<_, min}
+use native.Mathlib.Nat.{pow-suc, mul-add, mul-le-mul-left, mul-le-mul-right}
 use native.Mathlib.Omega.{arith}
 use lib.Dec.{leb}
 use lib.Pow.{high}
@@ -38,14 +38,14 @@ lower-by-top-bit k a b x ha hb e = go (leb a b) refl
         (top-set k (2 ^ suc k - 1 - x) (a - suc b) (omega arith) (omega (arith, pow-suc 2 k)))
         ∙ omega arith
 
--- ---- a number times a bit, and two of which one at most is taken, are no larger
+-- ---- a number below m times a bit is below m, and so are two such of which one at most is taken
 
-pub times-bit : {m n : ℕ} (t : ℕ) → n < m → t ≤ 1 → n * t < m
-times-bit zero h l = omega arith
-times-bit (suc zero) h l = omega arith
-times-bit (suc (suc t)) h l = absurd (omega arith)
+pub times-bit : {m n t : ℕ} → n < m → t ≤ 1 → n * t < m
+times-bit {n = n} h l = omega (arith, mul-le-mul-left n l)
 
 pub one-taken : {m a b : ℕ} (s t : ℕ) → a < m → b < m → s + t ≤ 1 → a * s + b * t < m
-one-taken zero t ha hb h = omega (arith, times-bit t hb (omega arith))
-one-taken (suc s) zero ha hb h = omega (arith, times-bit (suc s) ha (omega arith))
-one-taken (suc s) (suc t) ha hb h = absurd (omega arith)
+one-taken {m} {a} {b} s t ha hb h =
+    let p = m - 1 in
+    let la : a ≤ p = omega arith in
+    let lb : b ≤ p = omega arith in
+    omega (arith, mul-le-mul-right s la, mul-le-mul-right t lb, mul-add p s t, mul-le-mul-left p h)

@@ -3,6 +3,7 @@
 use mathlib.Core.Path.{refl}
 use Prim.Native.Nat.{_+_, _-_, _^_}
 use native.Mathlib.Omega.{arith}
+use lib.Pow.{add-lt-pow}
 use borrow.Author.Needs.{needs}
 use Rattle.weights.proofs.TopBits.{lower-by-top-bit, times-bit, one-taken}
 use Rattle.weights.proofs.more_urgent.Statement.{statement}
@@ -18,13 +19,13 @@ sub-is-second : tie.Need-sub-is-second
 sub-is-second c = search needs
 
 mul-result : tie.Need-mul-result
-mul-result c = record { fits = times-bit _ (omega arith) (omega arith) }
+mul-result c = record { fits = times-bit (omega arith) (omega arith) }
 
 mul-result-2 : tie.Need-mul-result-2
-mul-result-2 c = record { fits = times-bit _ (omega arith) (omega arith) }
+mul-result-2 c = record { fits = times-bit (omega arith) (omega arith) }
 
 add-result : tie.Need-add-result
-add-result c = record { fits = one-taken _ _ (omega arith) (omega arith) (omega arith) }
+add-result c = record { fits = add-lt-pow 31 (times-bit (omega arith) (omega arith)) (times-bit (omega arith) (omega arith)) }
 
 cast-result : tie.Need-cast-result
 cast-result c = record { fits = one-taken _ _ (omega arith) (omega arith) (omega arith) }
