@@ -1,5 +1,5 @@
--- The lower of two numbers, without a test of which it is: the top bit of their difference chooses.
--- A word has k + 1 bits, its top bit is the one above k others.
+-- The lower of two numbers without a test of which it is: the top bit of their difference chooses, in a word of any width, k + 1 bits.
+-- From the law of a number's upper digits (`high`) and from laws of order.
 -- Assumes nothing.
 use mathlib.Core.Path.{_≡_, refl, ap, ap₂, _∙_}
 use mathlib.Core.Bool.{Bool, true, false}
@@ -10,6 +10,8 @@ use lib.Dec.{leb}
 use lib.Pow.{high}
 use borrow.Author.Tests.{leb-true, leb-false}
 
+-- ---- the top bit of a word of k + 1 bits
+
 top-set : (k n low : ℕ) → low < 2 ^ k → n ≡ 1 * 2 ^ k + low → n / 2 ^ k ≡ 1
 top-set k n low h e = ap (λ (x : ℕ). x / 2 ^ k) e ∙ high 1 k h
 
@@ -18,7 +20,8 @@ top-clear k n h =
     let e : n ≡ 0 * 2 ^ k + n = omega arith in
     ap (λ (x : ℕ). x / 2 ^ k) e ∙ high 0 k h
 
--- a where the top bit of 2 ^ k + b - a is 1, and b where it is 0
+-- ---- the choice: a where the top bit of 2 ^ k + b - a is 1, and b where it is 0, that of the complement is 1
+
 pub lower-by-top-bit : (k a b x : ℕ) → a < 2 ^ k → b < 2 ^ k → x ≡ 2 ^ k + b - a → a * (x / 2 ^ k) + b * ((2 ^ suc k - 1 - x) / 2 ^ k) ≡ min a b
 lower-by-top-bit k a b x ha hb e = go (leb a b) refl
   where
@@ -38,7 +41,7 @@ lower-by-top-bit k a b x ha hb e = go (leb a b) refl
         (top-set k (2 ^ suc k - 1 - x) (a - suc b) (omega arith) (omega (arith, pow-suc 2 k)))
         ∙ omega arith
 
--- ---- a number below m times a bit is below m, and so are two such of which one at most is taken
+-- ---- what the products come to: a number below m times a bit is below m, and so is the sum of two where one bit at most is 1
 
 pub times-bit : {m n t : ℕ} → n < m → t ≤ 1 → n * t < m
 times-bit {n = n} h l = omega (arith, mul-le-mul-left n l)

@@ -14,8 +14,7 @@ use state::Sets;
 // The key of no lock: above that of every lock, since its weight is above every weight.
 pub const NO_KEY: u64 = 257 * 65536;
 
-// The more urgent of two ranks or ceilings.
-// The top bit of `apart` is 1 where the first is it, else 0.
+// The more urgent of two ranks or ceilings, without a branch: the top bit of `apart` is 1 where the first is at most the second, else 0.
 pub fn more_urgent(a: u16, b: u16) -> u16
     ensures { λ r. ⌜ r ≡ W.moreUrgent a b ⌝ }
 {

@@ -1,4 +1,4 @@
--- `weights::more_urgent` meets its contract, by `lower-by-top-bit` in a word of 32 bits.
+-- `weights::more_urgent` meets its contract, by `lower-by-top-bit` in a word of 32 bits; its products fit since one bit at most is 1.
 -- Assumes nothing.
 use mathlib.Core.Path.{refl}
 use Prim.Native.Nat.{_+_, _-_, _^_}
