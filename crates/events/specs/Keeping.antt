@@ -62,6 +62,13 @@ woken-keeps s F =
 
 -- ---- the rules of the kinds
 
+-- the release of an unlock that is not refused
+pub release-accepted-keeps : (s : State) → Facts s → (r o : ℕ) → AcceptedEvent s 4 r o → Facts (release s r o)
+release-accepted-keeps s F r o A =
+    let object = between-true 1 (s .counts .objects) o (A .object) in
+    release-keeps s F r (A .rank .0) (A .rank .1) o (object .0) (omega (arith, F .counts .objects)) (not-false (isActive s r) (A .not-13))
+    (not-waiting s r (A .not-14))
+
 -- an event that is not refused
 accepted-keeps : (s : State) → Facts s → (k r o : ℕ) → AcceptedEvent s k r o → Facts (accepted s k r o .state)
 unfolding accepted wake
@@ -69,11 +76,7 @@ accepted-keeps s F zero r o A = F
 accepted-keeps s F (suc zero) r o A = activate-keeps s F r (A .rank .0) (A .rank .1) (A .not-12)
 accepted-keeps s F (suc (suc zero)) r o A = request-keeps s F r (A .rank .0) (A .rank .1) read o (read-facts s r o A)
 accepted-keeps s F (suc (suc (suc zero))) r o A = request-keeps s F r (A .rank .0) (A .rank .1) write o (write-facts s r o A)
-accepted-keeps s F (suc (suc (suc (suc zero)))) r o A =
-    let object = between-true 1 (s .counts .objects) o (A .object) in
-    woken-keeps (release s r o)
-    (release-keeps s F r (A .rank .0) (A .rank .1) o (object .0) (omega (arith, F .counts .objects)) (not-false (isActive s r) (A .not-13))
-    (not-waiting s r (A .not-14)))
+accepted-keeps s F (suc (suc (suc (suc zero)))) r o A = woken-keeps (release s r o) (release-accepted-keeps s F r o A)
 accepted-keeps s F (suc (suc (suc (suc (suc zero))))) r o A = woken-keeps (endRun s r) (end-keeps s F r (A .rank .0) (A .rank .1))
 accepted-keeps s F (suc (suc (suc (suc (suc (suc zero)))))) r o A = woken-keeps (endRun s r) (end-keeps s F r (A .rank .0) (A .rank .1))
 accepted-keeps s F (suc (suc (suc (suc (suc (suc (suc k))))))) r o A =

@@ -86,7 +86,7 @@ fn grant_or_wait<'a>(
         holder,
         named,
         set_of(writers, named),
-        set_of(may_write, named),
+        weights::ceiling(counts, set_of(may_write, named)),
     );
     store_request(request, rank, (mode as u16) * 256 + (object as u16));
     Answer::Waits {

@@ -1,4 +1,5 @@
--- The example of 01 ("The bench record"), in one table under one theorem: its twelve answers, and the three questions asked on the way.
+-- The example of 01 ("The bench record"), in one table under one theorem: its twelve answers, and the three questions asked on the way. Then the ceilings
+-- of an object there that nobody writes.
 -- Assumes nothing.
 use Prim.Native.Nat.{ℕ}
 use mathlib.Core.Path.{_≡_, refl}
@@ -21,11 +22,12 @@ use Rattle.inheritance.specs.Running as R
 use Rattle.inheritance.specs.Running.{runningRank}
 use Rattle.questions.specs.declared.RankAnswer.{RankAnswer}
 use Rattle.questions.specs.declared.RankAnswer.the-variants.{Rank}
+use Rattle.questions.specs.declared.CeilingsAnswer.the-variants.{Ceilings}
 use Rattle.events.specs.Answers.{Paper, paper}
-use Rattle.refusals.specs.Refusals.{eventRefusal, refusal, jobRefusal, processorRefusal}
+use Rattle.refusals.specs.Refusals.{eventRefusal, refusal, jobRefusal, objectRefusal, processorRefusal}
 use Rattle.events.specs.Events.{requestMeeting, woken, wake, accepted}
 use Rattle.manager.specs.Step.{step}
-use Rattle.questions.specs.Questions.{askInheritedRank, askRunning}
+use Rattle.questions.specs.Questions.{askInheritedRank, askCeilings, askRunning}
 
 -- ---- the four answers, by their number and values
 
@@ -83,3 +85,12 @@ unfolding exampleLines replay
     weight othersKey objectKey lowestKeyBy namedKey reason wakeable R.inheritedRank runningRank
     eventRefusal refusal jobRefusal processorRefusal requestMeeting woken wake accepted step askInheritedRank askRunning
 example-answers = (refl, refl)
+
+-- "where four jobs give 5 for an object that nobody writes" (02, CR 4): object 2 of the same table
+pub example-ceilings : askCeilings (readTable example .state) 2 ≡ Ceilings 5 2
+unfolding every firstNonzero member with first trailingZeros ones
+    processorsFit declarationsFit aboveIdle locksFit oneLockEach writersAlone waitsFit marksFit wellFormed
+    headerRefusal lengthRefusal processorByteRefusal entryRefusal entriesRefusal tableRefusal
+    processorsOf withRight declaredIn tableState readTable
+    objectRefusal askCeilings
+example-ceilings = refl

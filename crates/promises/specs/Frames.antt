@@ -63,7 +63,7 @@ module _ (s : State) (F : Facts s) (r : ℕ) (low : 1 ≤ r) (high : r ≤ s .co
           ap₂ (λ a b. min (weightIf a (weight s read r o)) (weightIf b (weight s write r o)))
           (subst (λ n. holds s n r o ≡ false) e (none .0)) (none .1) in
           let new = lock-below t read r o (inl refl) (read-granted s F r low high m o A e .0) in
-          (omega (arith, read-own t r o), omega (arith, weight-small t read r o))
+          (omega (arith, read-own t r o), omega (arith, weight-small t read r o, F .counts .jobs))
 
       writing : m ≢ read → (lockWeight t r o ≤ r) × (lockWeight t r o ≤ lockWeight s r o)
       writing d =
@@ -75,11 +75,11 @@ module _ (s : State) (F : Facts s) (r : ℕ) (low : 1 ≤ r) (high : r ≤ s .co
         where
           than-read : (b : Bool) → In (declared s write o) r → weight t write r o ≤ weightIf b (weight s read r o)
           than-read true i = omega (arith, write-below-read t r o i, table-weight s (grant s m r o) read r o)
-          than-read false i = omega (arith, weight-small t write r o)
+          than-read false i = omega (arith, weight-small t write r o, F .counts .jobs)
 
           than-write : (b : Bool) → weight t write r o ≤ weightIf b (weight s write r o)
           than-write true = omega (arith, table-weight s (grant s m r o) write r o)
-          than-write false = omega (arith, weight-small t write r o)
+          than-write false = omega (arith, weight-small t write r o, F .counts .jobs)
 
   pub took-grant : Took (lockWeight s) (lockWeight (grant s m r o)) r o
   unfolding grant

@@ -10,6 +10,8 @@ pub mod Requests
 pub mod Steps
 pub mod ReachedStates
 pub mod OldRule
+pub mod NobodyAs65
+pub mod Nobody
 pub mod TableStates
 pub mod Promises
 pub mod Example

@@ -155,7 +155,7 @@ module _ (s : State) (K : Kept s) (one : s .counts .processors ≡ 1) where
   same-key j low high run = elim (decLt j (keyWeight (lowestKey s j))) [
     | yes l ↦ inl (lt-ltb j (keyWeight (lowestKey s j)) l, lt-ltb j (keyWeight (oldLowestKey s j)) (omega (arith, old-key-above s j)))
     | no n ↦ inr (old-key-same s j (omega (arith, F .counts .jobs)) (F .counts .objects .1)
-        (λ m r o l w. runs-above j r o low high run (l .other) (omega (arith, lock-below s m r o (l .mode) (l .held), weight-small s m r o))) (omega arith))
+        (λ m r o l w. runs-above j r o low high run (l .other) (omega (arith, lock-below s m r o (l .mode) (l .held), weight-small s m r o, F .counts .jobs))) (omega arith))
   ]
 
   pub running-is : value (rankReply (askRunning s 0)) 0 0 ≡ runningRank s 0

@@ -1,5 +1,5 @@
 -- The promises about the manager as a whole: demand 3, well-formed states, granting and naming, no second wake-up, the old rule on one processor,
--- and write locks that stay. Their terms are in Terms.antt, for demand 3 in theory/specs/Words.antt and for write locks in theory/specs/WriteLocks.antt;
+-- nobody by the table, and write locks that stay. Their terms are in Terms.antt, for demand 3 in theory/specs/Words.antt and for write locks in theory/specs/WriteLocks.antt;
 -- the files between Terms.antt and this one prove them. The sentences in quotes are document 01's, or where it says so 02's. Assumes nothing.
 use mathlib.Core.Path.{_≡_, ap}
 use mathlib.Core.Logic.{_≢_, _↔_}
@@ -9,7 +9,7 @@ use Prim.Native.Nat.{ℕ, zero, suc}
 use lib.ListN.{getD}
 use Rattle.basics.specs.Choice.{between}
 use Rattle.state.specs.declared.State.{State}
-use Rattle.state.specs.State.{write, holds, isWaiting}
+use Rattle.state.specs.State.{mostJobs, write, isObject, declared, declaredAny, holds, isWaiting}
 use Rattle.state.specs.WellFormed.{wellFormed}
 use Rattle.state.specs.Facts.{Sized}
 use Rattle.state.specs.WellFormedFacts.{facts, facts-well-formed}
@@ -21,14 +21,14 @@ use Rattle.events.specs.Answers.{paper}
 use Rattle.refusals.specs.Refusals.{isRequest, modeOf}
 use Rattle.manager.specs.Keeping.{step-keeps, step-well-formed}
 use Rattle.basics.specs.Replies.{value}
-use Rattle.questions.specs.Answers.{rankReply}
-use Rattle.questions.specs.Questions.{askRunning}
+use Rattle.questions.specs.Answers.{rankReply, ceilingsReply}
+use Rattle.questions.specs.Questions.{askInheritedRank, askNamedLock, askCeilings, askRunning}
 use Rattle.theory.specs.Words.{Ends, Demand3}
 use Rattle.theory.specs.WriteLocks.{HoldsWrite, WriteLocksStay}
 use Rattle.theory.specs.Keeps.{none-passes}
 use Rattle.theory.specs.WritesStay.{write-kept}
 use Rattle.theory.specs.Lists.{stateAt, labelAt, demand3-of, writes-stay-of, writes-shown-of}
-use Rattle.promises.specs.Terms.{Event, outcomeOf, next, label, named, Reached, fresh, after, oldRequest}
+use Rattle.promises.specs.Terms.{Event, outcomeOf, next, label, named, Reached, fresh, after, oldRequest, CeilingIs}
 use Rattle.promises.specs.TableStates.{read-sized}
 use Rattle.promises.specs.View.{view}
 use Rattle.promises.specs.LockModes.{modes, write-mode, mode-write}
@@ -37,6 +37,8 @@ use Rattle.promises.specs.ReachedStates.{kept, fresh-facts, fresh-view, 
 use Rattle.promises.specs.Waking.{blocked-not-woken, nobody-left}
 use Rattle.promises.specs.Requests.{granted-exactly, waits-for}
 use Rattle.promises.specs.OldRule.{one-request}
+use Rattle.promises.specs.NobodyAs65.{step65, askInheritedRank65, askNamedLock65, askCeilings65, askRunning65}
+use Rattle.promises.specs.Nobody.{step-same, ask-inherited-same, ask-named-same, ask-running-same, ask-ceilings-are, ask-ceilings-64}
 
 -- ---- DEMAND 3
 -- "It is a single claim about the whole list of events and not one for each event. The list starts from a fresh state .. An event in it is
@@ -116,6 +118,34 @@ pub one-processor : {t : State} → Reached t → t .counts .processors ≡ 1
     → paper (outcomeOf t e .answer) ≡ paper (oldRequest t (modeOf (e .kind)) (e .rank) (e .object) .answer)
 one-processor {t} r one e kind run ok =
     ap (λ x. paper (x .answer)) (one-request t (kept r) one (e .kind) (e .rank) (e .object) kind run ok)
+
+-- ---- NOBODY IS ONE PAST THE LAST RANK
+-- 02, CR 4, of any well-formed state, handed in or reached. The rule with 65 for nobody, which stood before, is in NobodyAs65.antt.
+module _ (s : State) (sized : Sized s) (well : wellFormed s ≡ true) where
+  -- The question for an object of the table gives, first for the ranks that are declared to write it and then for all that are declared, the most
+  -- urgent rank; and where there is none, "the job count plus one".
+  pub ceilings-are : (o : ℕ) → isObject s o ≡ true
+      → CeilingIs (s .counts .jobs) (declared s write o) (value (ceilingsReply (askCeilings s o)) 0 0)
+      × CeilingIs (s .counts .jobs) (declaredAny s o) (value (ceilingsReply (askCeilings s o)) 1 0)
+  ceilings-are = ask-ceilings-are s (facts s sized well)
+
+  -- "Grants, names and reasons are unchanged": an event of any kind or none has the answer and the next state of the rule with 65,
+  pub nobody-event : (e : Event) → outcomeOf s e ≡ step65 s (e .kind) (e .rank) (e .object)
+  nobody-event e = step-same s (facts s sized well) (e .kind) (e .rank) (e .object)
+
+  -- and so have the questions for a job's named lock, its inherited rank and the rank that a processor runs.
+  pub nobody-named : (j : ℕ) → askNamedLock s j ≡ askNamedLock65 s j
+  nobody-named = ask-named-same s (facts s sized well)
+
+  pub nobody-inherited : (j : ℕ) → askInheritedRank s j ≡ askInheritedRank65 s j
+  nobody-inherited = ask-inherited-same s (facts s sized well)
+
+  pub nobody-running : (p : ℕ) → askRunning s p ≡ askRunning65 s p
+  nobody-running = ask-running-same s (facts s sized well)
+
+-- "A table of 64 jobs still gives 65.": its ceilings are those of the rule with 65.
+pub sixty-four-jobs : (s : State) → s .counts .jobs ≡ mostJobs → (o : ℕ) → askCeilings s o ≡ askCeilings65 s o
+sixty-four-jobs = ask-ceilings-64
 
 -- ---- WRITE LOCKS STAY UNTIL THE END
 -- 02, CR 1: "The trade's habit is to release writes when a run ends .. Unlock is for read locks from now on."

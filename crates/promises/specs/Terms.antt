@@ -1,13 +1,14 @@
 -- The terms of the promises: events, what demand 3 reads off an event and its answer, whom a job names, the states that are reached,
--- and a request by the old rule. The sentences in quotes are document 01's.
+-- a request by the old rule, and a ceiling. The sentences in quotes are document 01's, or where it says so 02's.
 -- Assumes nothing.
+use mathlib.Core.Path.{_≡_}
 use mathlib.Core.Bool.{Bool}
-use Prim.Native.Nat.{ℕ}
+use Prim.Native.Nat.{ℕ, _+_, _≤_}
 use lib.Dec.{eqb}
 use lib.ListN.{getD}
 use Rattle.basics.specs.Choice.{if_then_else_}
 use Rattle.state.specs.declared.State.{State}
-use Rattle.state.specs.Facts.{Sized}
+use Rattle.state.specs.Facts.{Sized, In}
 use Rattle.table.specs.Fresh.{Fresh}
 use Rattle.weights.specs.Keys.{oldLowestKey}
 use Rattle.events.specs.declared.Outcome.{Outcome}
@@ -81,3 +82,10 @@ pub data Reached : State → Type 0 where
 -- ---- a request of r for object o in mode m by the old rule: "The old rule is the same with a read lock weighing the write ceiling alone."
 abbrev pub oldRequest : State → ℕ → ℕ → ℕ → Outcome
 oldRequest s m r o = requestMeeting s m r o (oldLowestKey s r)
+
+-- ---- n is the ceiling of these ranks in a table of so many jobs. Nobody is said in the paper's words here, so that they hold the definition (`nobody`).
+pub record CeilingIs (jobs ranks n : ℕ) : Type 0 where
+  -- "the most urgent rank declared"
+  pub most-urgent : (r : ℕ) → In ranks r → In ranks n × (n ≤ r)
+  -- "the job count plus one" (02, CR 4) where there is none
+  pub nobody : ranks ≡ 0 → n ≡ jobs + 1

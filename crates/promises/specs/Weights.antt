@@ -91,7 +91,7 @@ module _ (s : State) where
             let o = w .object in
             let L = w .lock in
             let up = lock-below (w .mode) r o (L .mode) (L .held) in
-            let small : lockWeight r o < noWeight = omega (arith, weight-small s (w .mode) r o) in
+            let small : lockWeight r o < noWeight = omega (arith, weight-small s (w .mode) r o, F .counts .jobs) in
             let z = lock-small r o small in
             inr (r, o, L .other, z .0, z .1, omega (arith, lowest-below j r o (L .other) small, w .is))
 

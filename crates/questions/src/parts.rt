@@ -137,8 +137,8 @@ pub fn ask_ceilings<'a>(
     let write = set_of(may_write, object);
     let either = ranks::union(set_of(may_read, object), write);
     CeilingsAnswer::Ceilings {
-        write: weights::ceiling(write),
-        absolute: weights::ceiling(either),
+        write: weights::ceiling(counts, write),
+        absolute: weights::ceiling(counts, either),
     }
 }
 

@@ -40,7 +40,7 @@ pub fn without(set: RankSet, rank: u8) -> RankSet
     set ^ (set & (1 << (rank - 1)))
 }
 
-// The most urgent rank of the set; one past the last rank where it is empty.
+// The most urgent rank of the set; where it is empty, one past all ranks that a set can have.
 pub fn first(set: RankSet) -> u8
     ensures { λ r. ⌜ r ≡ R.first R.wordBits set ⌝ }
 {

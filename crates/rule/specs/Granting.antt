@@ -7,8 +7,8 @@ use Rattle.basics.specs.Choice.{if_then_else_, _if_else_}
 use Rattle.basics.specs.Loops.{firstNonzero}
 use Rattle.ranks.specs.Ranks.{member}
 use Rattle.state.specs.declared.State.{State}
-use Rattle.state.specs.State.{write, holders, declared, requestOf, isWaiting}
-use Rattle.weights.specs.Weights.{ceilingOf}
+use Rattle.state.specs.State.{write, holders, requestOf, isWaiting}
+use Rattle.weights.specs.Weights.{writeCeiling}
 use Rattle.weights.specs.Keys.{noKey, keyWeight, keyHolder, keyObject, lowestKey, oldLowestKey}
 
 -- "A request is granted if the requester's rank is more urgent than the weight of every lock held by others."
@@ -36,16 +36,16 @@ namedHolder s j = keyHolder (namedKey s j)
 abbrev pub namedObject : State → ℕ → ℕ
 namedObject s j = keyObject (namedKey s j)
 
--- why a request for o in mode m waits for the lock that h holds on p, whose writers and declared writers are given: "1 conflict, if the named lock is on the requested object and either
--- is a write; else 3 cap, if it is a read lock whose holder is more urgent than the write ceiling; else 2 ceiling"
+-- why a request for o in mode m waits for the lock that h holds on p, whose writers and write ceiling are given:
+-- "1 conflict, if the named lock is on the requested object and either is a write; else 3 cap, if it is a read lock whose holder is more urgent than the write ceiling; else 2 ceiling"
 abbrev pub reasonOf : ℕ → ℕ → ℕ → ℕ → ℕ → ℕ → ℕ
-reasonOf m o h p writers mayWrite =
+reasonOf m o h p writers ceiling =
     1 if eqb p o && (eqb m write || member writers h) else
-    3 if not (member writers h) && ltb h (ceilingOf mayWrite) else
+    3 if not (member writers h) && ltb h ceiling else
     2
 
 unfoldable pub reason : State → ℕ → ℕ → ℕ → ℕ → ℕ
-reason s m o h p = reasonOf m o h p (holders s write p) (declared s write p)
+reason s m o h p = reasonOf m o h p (holders s write p) (writeCeiling s p)
 
 -- j, if it waits and its request passes; else 0
 abbrev pub wakes : State → ℕ → ℕ

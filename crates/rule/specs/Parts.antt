@@ -7,8 +7,8 @@ use Prim.Native.Nat.{ℕ}
 use Rattle.basics.specs.Loops.{least}
 use Rattle.state.specs.declared.Counts.{Counts}
 use Rattle.state.specs.declared.State.{State}
-use Rattle.state.specs.State.{stateOf, holders, declared, requestOf, write}
-use Rattle.weights.specs.Weights.{weight}
+use Rattle.state.specs.State.{stateOf, holders, requestOf, write}
+use Rattle.weights.specs.Weights.{writeCeiling, weight}
 use Rattle.weights.specs.Keys.{noKey, othersKey, objectKey, lowestKey, lowestKeyBy}
 use Rattle.weights.specs.Parts.{locksOf, keyAt, lowest-key-parts, lowest-key-at}
 use Rattle.rule.specs.Granting.{namedKeyOf, namedKey, reasonOf, reason, wakeable}
@@ -31,7 +31,7 @@ pub named-waits-parts : (s : State) (j : ℕ) → namedKey s j ≡ namedKey (wai
 unfolding lowestKeyBy objectKey othersKey weight namedKey
 named-waits-parts s j = refl
 
-pub reason-parts : (s : State) (m o h p : ℕ) → reason s m o h p ≡ reasonOf m o h p (holders s write p) (declared s write p)
+pub reason-parts : (s : State) (m o h p : ℕ) → reason s m o h p ≡ reasonOf m o h p (holders s write p) (writeCeiling s p)
 unfolding reason
 reason-parts s m o h p = refl
 
@@ -41,6 +41,6 @@ wakeable-parts s = refl
 
 -- the lowest key of a state with requests, by the arrays
 pub waits-key : (counts : Counts) (mayRead mayWrite readers writers request : List ℕ) (j : ℕ)
-    → lowestKey (waitsState counts mayRead mayWrite readers writers request) j ≡ least (counts .objects) noKey (keyAt mayRead mayWrite readers writers j)
+    → lowestKey (waitsState counts mayRead mayWrite readers writers request) j ≡ least (counts .objects) noKey (keyAt counts mayRead mayWrite readers writers j)
 waits-key counts mayRead mayWrite readers writers request j =
     lowest-key-parts (waitsState counts mayRead mayWrite readers writers request) j ∙ lowest-key-at counts mayRead mayWrite readers writers j

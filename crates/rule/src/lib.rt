@@ -12,7 +12,6 @@ use state::Counts;
 use state::JobRequests;
 use state::Sets;
 use weights::NO_KEY;
-use weights::ceiling;
 use weights::key_at;
 use weights::lowest_key;
 
@@ -44,23 +43,23 @@ pub fn named_key<'a>(
 }
 
 // Why a request for the object in the mode waits for the lock that the holder has on the named object, whose writers
-// and declared writers are given: 1 conflict, 3 cap, 2 ceiling.
+// and write ceiling are given: 1 conflict, 3 cap, 2 ceiling.
 pub fn reason(
     mode: u8,
     object: u8,
     holder: u8,
     named: u8,
     writers: RankSet,
-    may_write: RankSet,
+    write_ceiling: u16,
 ) -> u8
     requires { ⌜ (1 ≤ holder) × (holder ≤ mostJobs) ⌝ }
-    ensures { λ r. ⌜ r ≡ G.reasonOf mode object holder named writers «may_write» ⌝ }
+    ensures { λ r. ⌜ r ≡ G.reasonOf mode object holder named writers «write_ceiling» ⌝ }
 {
     let written = ranks::contains(writers, holder);
     if (named == object) & ((mode == 2) | written) {
         return 1;
     }
-    if !written & ((holder as u16) < ceiling(may_write)) {
+    if !written & ((holder as u16) < write_ceiling) {
         return 3;
     }
     2
@@ -89,7 +88,7 @@ pub fn wakeable<'a>(
             let mut done: u8 = 0;
             while done < counts.objects {
                 done += 1;
-                let key = key_at(may_read, may_write, readers, writers, done, rank);
+                let key = key_at(counts, may_read, may_write, readers, writers, done, rank);
                 if !passes(rank, key) {
                     continue 'search;
                 }

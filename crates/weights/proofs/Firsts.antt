@@ -12,6 +12,7 @@ use Rattle.basics.specs.Loops.{least, least-top, least-le, le-least}
 use Rattle.ranks.specs.Ranks.{member, without, first, union}
 use Rattle.ranks.specs.RankLaws.{first-least, first-member, first-pos, first-le, first-some, member-empty, without-empty}
 use Rattle.ranks.specs.UnionLaws.{empty-union}
+use Rattle.state.specs.declared.Counts.{Counts}
 use Rattle.state.specs.State.{mostJobs}
 use Rattle.weights.specs.Weights.{ceilingOf, moreUrgent}
 use Rattle.weights.specs.Keys.{lockKey, noKey, no-key-above}
@@ -39,41 +40,41 @@ module _ (k top set : ℕ) (f : ℕ → ℕ) where
       from r true m = grows (first k set) r (first-least k set r m)
       from r false m = below (first k set) l
 
-module _ (o : ℕ) (h : o < 256) where
+module _ (c : Counts) (o : ℕ) (h : o < 256) where
   pub reader-key-first : (readers mayWrite : ℕ) → 0 < readers → readers < 2 ^ mostJobs
-      → readerKey readers mayWrite o ≡ lockKey (moreUrgent (ceilingOf mayWrite) (first mostJobs readers)) (first mostJobs readers) o
+      → readerKey c readers mayWrite o ≡ lockKey (moreUrgent (ceilingOf c mayWrite) (first mostJobs readers)) (first mostJobs readers) o
   unfolding readerKey
   reader-key-first readers mayWrite p b =
-      least-first mostJobs noKey readers (λ r. lockKey (moreUrgent (ceilingOf mayWrite) r) r o)
+      least-first mostJobs noKey readers (λ r. lockKey (moreUrgent (ceilingOf c mayWrite) r) r o)
       (λ q r l. omega arith)
-      (λ r l. omega (arith, no-key-above (moreUrgent (ceilingOf mayWrite) r) r o (omega arith) (omega arith) h)) (first-some mostJobs readers p b)
+      (λ r l. omega (arith, no-key-above (moreUrgent (ceilingOf c mayWrite) r) r o (omega arith) (omega arith) h)) (first-some mostJobs readers p b)
 
   pub writer-key-first : (writers mayRead mayWrite : ℕ) → 0 < writers → writers < 2 ^ mostJobs
-      → writerKey writers mayRead mayWrite o ≡ lockKey (ceilingOf (union mayRead mayWrite)) (first mostJobs writers) o
+      → writerKey c writers mayRead mayWrite o ≡ lockKey (ceilingOf c (union mayRead mayWrite)) (first mostJobs writers) o
   unfolding writerKey
   writer-key-first writers mayRead mayWrite p b =
-      least-first mostJobs noKey writers (λ r. lockKey (ceilingOf (union mayRead mayWrite)) r o)
+      least-first mostJobs noKey writers (λ r. lockKey (ceilingOf c (union mayRead mayWrite)) r o)
       (λ q r l. omega arith)
-      (λ r l. omega (arith, no-key-above (ceilingOf (union mayRead mayWrite)) r o (omega (arith, first-le mostJobs (union mayRead mayWrite))) (omega arith) h))
+      (λ r l. omega (arith, no-key-above (ceilingOf c (union mayRead mayWrite)) r o (omega (arith, first-le mostJobs (union mayRead mayWrite))) (omega arith) h))
       (first-some mostJobs writers p b)
 
 -- no lock, no key
-pub reader-key-none : (readers mayWrite o : ℕ) → readers ≡ 0 → readerKey readers mayWrite o ≡ noKey
+pub reader-key-none : (c : Counts) (readers mayWrite o : ℕ) → readers ≡ 0 → readerKey c readers mayWrite o ≡ noKey
 unfolding readerKey
-reader-key-none readers mayWrite o e =
-    least-empty mostJobs noKey readers (λ r. lockKey (moreUrgent (ceilingOf mayWrite) r) r o) (λ r. ap (λ (set : ℕ). member set r) e ∙ member-empty r)
+reader-key-none c readers mayWrite o e =
+    least-empty mostJobs noKey readers (λ r. lockKey (moreUrgent (ceilingOf c mayWrite) r) r o) (λ r. ap (λ (set : ℕ). member set r) e ∙ member-empty r)
 
-pub writer-key-none : (writers mayRead mayWrite o : ℕ) → writers ≡ 0 → writerKey writers mayRead mayWrite o ≡ noKey
+pub writer-key-none : (c : Counts) (writers mayRead mayWrite o : ℕ) → writers ≡ 0 → writerKey c writers mayRead mayWrite o ≡ noKey
 unfolding writerKey
-writer-key-none writers mayRead mayWrite o e =
-    least-empty mostJobs noKey writers (λ r. lockKey (ceilingOf (union mayRead mayWrite)) r o) (λ r. ap (λ (set : ℕ). member set r) e ∙ member-empty r)
+writer-key-none c writers mayRead mayWrite o e =
+    least-empty mostJobs noKey writers (λ r. lockKey (ceilingOf c (union mayRead mayWrite)) r o) (λ r. ap (λ (set : ℕ). member set r) e ∙ member-empty r)
 
-pub object-key-none : (readers writers mayRead mayWrite o j : ℕ) → union readers writers ≡ 0 → objectKeyOf readers writers mayRead mayWrite o j ≡ noKey
+pub object-key-none : (c : Counts) (readers writers mayRead mayWrite o j : ℕ) → union readers writers ≡ 0 → objectKeyOf c readers writers mayRead mayWrite o j ≡ noKey
 unfolding objectKeyOf
-object-key-none readers writers mayRead mayWrite o j e =
+object-key-none c readers writers mayRead mayWrite o j e =
     let both : eqb readers 0 && eqb writers 0 ≡ true = sym (empty-union readers writers) ∙ eq-eqb (union readers writers) 0 e in
     let no-reader : readers ≡ 0 = eqb-true readers 0 (and-left (eqb readers 0) (eqb writers 0) both) in
     let no-writer : writers ≡ 0 = eqb-true writers 0 (and-right (eqb readers 0) (eqb writers 0) both) in
     ap₂ min
-    (reader-key-none (without readers j) mayWrite o (ap (λ (set : ℕ). without set j) no-reader ∙ without-empty j))
-    (writer-key-none (without writers j) mayRead mayWrite o (ap (λ (set : ℕ). without set j) no-writer ∙ without-empty j))
+    (reader-key-none c (without readers j) mayWrite o (ap (λ (set : ℕ). without set j) no-reader ∙ without-empty j))
+    (writer-key-none c (without writers j) mayRead mayWrite o (ap (λ (set : ℕ). without set j) no-writer ∙ without-empty j))

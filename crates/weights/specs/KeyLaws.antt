@@ -5,7 +5,7 @@ use mathlib.Core.Path.{_≡_, refl, ap, _∙_}
 use mathlib.Core.Logic.{_≢_, _⊎_, inl, inr}
 use mathlib.Core.Bool.{Bool, true, false, not, _&&_}
 use Prim.Native.Nat.{ℕ, _≤_, _<_, min}
-use native.Mathlib.Nat.{le-trans}
+use native.Mathlib.Nat.{le-trans, le-antisymm}
 use native.Mathlib.Omega.{arith}
 use native.Mathlib.Decide.{decLe}
 use lib.Dec.{eqb}
@@ -139,3 +139,10 @@ module _ (weigh : Weigh) (s : State) (j : ℕ) where
           let holder-is : keyHolder k ≡ w .holder = omega (arith, w .is) in
           let object-is : keyObject k ≡ w .object = omega (arith, w .is) in
           ((omega arith, omega arith), (omega arith, omega arith))
+
+-- two rules that weigh each lock of another the same give the same lowest key
+pub same-lowest-key : (v w : Weigh) (s : State) (j : ℕ) → ((m r o : ℕ) → OthersLock s j m r o → v m r o ≡ w m r o) → lowestKeyBy v s j ≡ lowestKeyBy w s j
+same-lowest-key v w s j same =
+    le-antisymm
+    (le-key w s j (lowestKeyBy v s j) (key-top v s j) (λ m r o l. omega (arith, same m r o l, key-below v s j m r o l)))
+    (le-key v s j (lowestKeyBy w s j) (key-top w s j) (λ m r o l. omega (arith, same m r o l, key-below w s j m r o l)))

@@ -14,7 +14,7 @@ use Rattle.weights.specs.Weights.{weight, oldWeight}
 abbrev pub lockKey : ℕ → ℕ → ℕ → ℕ
 lockKey weighs holder object = weighs * 65536 + holder * 256 + object
 
--- above every weight: a lock weighs a rank or, where nobody is declared, one past the last rank, which is 256 for 255 jobs
+-- above every weight: a lock weighs a rank or nobody, which is 256 for 255 jobs
 abbrev pub noWeight : ℕ
 noWeight = 257
 

@@ -1,5 +1,5 @@
--- The lowest key on one object, by its four sets of ranks: its readers and writers, and the ranks that may read and write it.
--- Then that this is the lowest key on the object of the state with these sets.
+-- The lowest key on one object, by the table's counts and the object's four sets of ranks: its readers and writers, and the ranks that may read and
+-- write it. Then that this is the lowest key on the object of the state with these sets.
 -- Assumes nothing.
 use mathlib.Core.Path.{_≡_, refl, sym, ap₂, _∙_}
 use mathlib.Core.Bool.{Bool, true, false, not, _&&_}
@@ -11,6 +11,7 @@ use Rattle.basics.specs.Choice.{if_then_else_}
 use Rattle.basics.specs.Loops.{least, least-same}
 use Rattle.ranks.specs.Ranks.{member, without, union}
 use Rattle.ranks.specs.RankLaws.{member-without-same, member-without-other}
+use Rattle.state.specs.declared.Counts.{Counts}
 use Rattle.state.specs.declared.State.{State}
 use Rattle.state.specs.State.{mostJobs, read, write, holders, declared}
 use Rattle.weights.specs.Weights.{ceilingOf, moreUrgent, weight}
@@ -21,17 +22,17 @@ abbrev pub heldKey : ℕ → ℕ → ℕ → ℕ → ℕ
 heldKey holders weighs o r = if member holders r then lockKey weighs r o else noKey
 
 -- the lowest key among the read locks on o
-unfoldable pub readerKey : ℕ → ℕ → ℕ → ℕ
-readerKey readers mayWrite o = least mostJobs noKey (λ r. heldKey readers (moreUrgent (ceilingOf mayWrite) r) o r)
+unfoldable pub readerKey : Counts → ℕ → ℕ → ℕ → ℕ
+readerKey c readers mayWrite o = least mostJobs noKey (λ r. heldKey readers (moreUrgent (ceilingOf c mayWrite) r) o r)
 
 -- the lowest key among the write locks on o
-unfoldable pub writerKey : ℕ → ℕ → ℕ → ℕ → ℕ
-writerKey writers mayRead mayWrite o = least mostJobs noKey (heldKey writers (ceilingOf (union mayRead mayWrite)) o)
+unfoldable pub writerKey : Counts → ℕ → ℕ → ℕ → ℕ → ℕ
+writerKey c writers mayRead mayWrite o = least mostJobs noKey (heldKey writers (ceilingOf c (union mayRead mayWrite)) o)
 
 -- the lowest key among the locks that others than j hold on o: "Own locks don't count."
-unfoldable pub objectKeyOf : ℕ → ℕ → ℕ → ℕ → ℕ → ℕ → ℕ
-objectKeyOf readers writers mayRead mayWrite o j =
-    min (readerKey (without readers j) mayWrite o) (writerKey (without writers j) mayRead mayWrite o)
+unfoldable pub objectKeyOf : Counts → ℕ → ℕ → ℕ → ℕ → ℕ → ℕ → ℕ
+objectKeyOf c readers writers mayRead mayWrite o j =
+    min (readerKey c (without readers j) mayWrite o) (writerKey c (without writers j) mayRead mayWrite o)
 
 -- ---- the lowest key on an object of a state
 
@@ -50,11 +51,11 @@ others-without set j r key = go (eqb r j) refl
     go false t = rw (member-without-other set j r (λ e. eqb-false r j t (sym e)))
 
 pub object-key-sets : (s : State) (j o : ℕ)
-    → objectKey (weight s) s j o ≡ objectKeyOf (holders s read o) (holders s write o) (declared s read o) (declared s write o) o j
+    → objectKey (weight s) s j o ≡ objectKeyOf (s .counts) (holders s read o) (holders s write o) (declared s read o) (declared s write o) o j
 unfolding objectKey othersKey weight objectKeyOf readerKey writerKey
 object-key-sets s j o =
-    let ceiling = ceilingOf (declared s write o) in
-    let absolute = ceilingOf (union (declared s read o) (declared s write o)) in
+    let ceiling = ceilingOf (s .counts) (declared s write o) in
+    let absolute = ceilingOf (s .counts) (union (declared s read o) (declared s write o)) in
     let readKey : ℕ → ℕ = (λ r. heldKey (without (holders s read o) j) (moreUrgent ceiling r) o r) in
     let writeKey : ℕ → ℕ = heldKey (without (holders s write o) j) absolute o in
     least-same mostJobs noKey _ (λ r. min (readKey r) (writeKey r))

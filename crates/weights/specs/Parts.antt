@@ -20,9 +20,9 @@ locksState counts mayRead mayWrite readers writers = stateOf counts [] mayRead m
 abbrev pub locksOf : State → State
 locksOf s = locksState (s .counts) (s .«may_read») (s .«may_write») (s .readers) (s .writers)
 
--- the lowest key among the locks that others than j hold on o, by the arrays of the objects' sets
-unfoldable pub keyAt : List ℕ → List ℕ → List ℕ → List ℕ → ℕ → ℕ → ℕ
-keyAt mayRead mayWrite readers writers j o = objectKeyOf (at readers o) (at writers o) (at mayRead o) (at mayWrite o) o j
+-- the lowest key among the locks that others than j hold on o, by the counts and the arrays of the objects' sets
+unfoldable pub keyAt : Counts → List ℕ → List ℕ → List ℕ → List ℕ → ℕ → ℕ → ℕ
+keyAt counts mayRead mayWrite readers writers j o = objectKeyOf counts (at readers o) (at writers o) (at mayRead o) (at mayWrite o) o j
 
 -- the same question about the part
 pub lowest-key-parts : (s : State) (j : ℕ) → lowestKey s j ≡ lowestKey (locksOf s) j
@@ -31,8 +31,8 @@ lowest-key-parts s j = refl
 
 -- one object more
 pub lowest-key-at : (counts : Counts) (mayRead mayWrite readers writers : List ℕ) (j : ℕ)
-    → lowestKey (locksState counts mayRead mayWrite readers writers) j ≡ least (counts .objects) noKey (keyAt mayRead mayWrite readers writers j)
+    → lowestKey (locksState counts mayRead mayWrite readers writers) j ≡ least (counts .objects) noKey (keyAt counts mayRead mayWrite readers writers j)
 unfolding lowestKeyBy keyAt
 lowest-key-at counts mayRead mayWrite readers writers j =
-    least-same (counts .objects) noKey _ (keyAt mayRead mayWrite readers writers j)
+    least-same (counts .objects) noKey _ (keyAt counts mayRead mayWrite readers writers j)
     (λ o a b. object-key-sets (locksState counts mayRead mayWrite readers writers) j o)

@@ -1,15 +1,34 @@
--- The laws of what a lock weighs: how urgent at least, beside its holder, the jobs that may lock its object and the same job's other lock on it; and at most 65.
+-- The laws of ceilings: nobody where no rank is declared, else a declared rank, and none is more urgent. The laws of what a lock weighs: how urgent at
+-- least, beside its holder, the jobs that may lock its object and the same job's other lock on it; and nobody at the most.
 -- Assumes nothing.
-use Prim.Native.Nat.{ℕ, _+_, _≤_}
+use mathlib.Core.Path.{_≡_, subst, ap}
+use Prim.Native.Nat.{ℕ, _≤_}
 use native.Mathlib.Omega.{arith}
-use Rattle.ranks.specs.Ranks.{union}
-use Rattle.ranks.specs.RankLaws.{first-least, first-le}
+use Rattle.ranks.specs.Ranks.{first, union}
+use Rattle.ranks.specs.RankLaws.{first-least, first-member, first-empty}
 use Rattle.ranks.specs.UnionLaws.{union-left, union-right, first-union}
+use Rattle.state.specs.declared.Counts.{Counts}
 use Rattle.state.specs.declared.State.{State}
 use Rattle.state.specs.State.{mostJobs, read, write, declared}
 use Rattle.state.specs.Facts.{In}
 use Rattle.state.specs.Modes.{either-mode}
-use Rattle.weights.specs.Weights.{writeCeiling, absoluteCeiling, moreUrgent, weight}
+use Rattle.weights.specs.Weights.{moreUrgent, nobody, ceilingOf, writeCeiling, absoluteCeiling, weight}
+
+-- ---- the ceiling of a set of ranks
+
+pub ceiling-none : (c : Counts) → c .jobs ≤ mostJobs → (ranks : ℕ) → ranks ≡ 0 → ceilingOf c ranks ≡ nobody c
+ceiling-none c few ranks e = omega (arith, ap (first mostJobs) e, first-empty mostJobs)
+
+pub ceiling-least : (c : Counts) (ranks r : ℕ) → In ranks r → ceilingOf c ranks ≤ r
+ceiling-least c ranks r i = omega (arith, first-least mostJobs ranks r i)
+
+pub ceiling-in : (c : Counts) → c .jobs ≤ mostJobs → (ranks r : ℕ) → In ranks r → r ≤ c .jobs → In ranks (ceilingOf c ranks)
+ceiling-in c few ranks r i high =
+    let low = first-least mostJobs ranks r i in
+    let here : first mostJobs ranks ≡ ceilingOf c ranks = omega arith in
+    subst (In ranks) here (first-member mostJobs ranks (omega arith))
+
+-- ---- weights
 
 module _ (s : State) where
   -- a read lock weighs at least as urgent as its holder and as each job that may write its object
@@ -29,7 +48,7 @@ module _ (s : State) where
       (λ i. below (union-left (declared s read o) (declared s write o) q i)) (λ i. below (union-right (declared s read o) (declared s write o) q i)) m
     where
       below : In (union (declared s read o) (declared s write o)) q → absoluteCeiling s o ≤ q
-      below i = first-least mostJobs (union (declared s read o) (declared s write o)) q i
+      below i = omega (arith, first-least mostJobs (union (declared s read o) (declared s write o)) q i)
 
   pub write-writer : (q r o : ℕ) → In (declared s write o) q → weight s write r o ≤ q
   write-writer q r o i = write-any write q r o i
@@ -40,8 +59,8 @@ module _ (s : State) where
   write-below-read r o i =
       omega (arith, first-union mostJobs (declared s read o) (declared s write o), write-writer r r o i)
 
-  pub weight-small : (m r o : ℕ) → weight s m r o ≤ mostJobs + 1
+  -- a lock weighs a rank or nobody
+  pub weight-small : (m r o : ℕ) → weight s m r o ≤ nobody (s .counts)
   unfolding weight
   weight-small m r o =
-      either-mode (λ f. f (moreUrgent (writeCeiling s o) r) (absoluteCeiling s o) ≤ mostJobs + 1) (omega (arith, first-le mostJobs (declared s write o)))
-      (first-le mostJobs (union (declared s read o) (declared s write o))) m
+      either-mode (λ f. f (moreUrgent (writeCeiling s o) r) (absoluteCeiling s o) ≤ nobody (s .counts)) (omega arith) (omega arith) m

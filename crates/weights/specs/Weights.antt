@@ -1,25 +1,30 @@
--- Ceilings, and what a lock weighs (01, "Ceilings").
+-- Ceilings, and what a lock weighs (01, "Ceilings"; 02, CR 4).
 -- Assumes nothing.
-use Prim.Native.Nat.{ℕ, min}
+use Prim.Native.Nat.{ℕ, _+_, min}
 use Rattle.ranks.specs.Ranks.{first}
+use Rattle.state.specs.declared.Counts.{Counts}
 use Rattle.state.specs.declared.State.{State}
 use Rattle.state.specs.State.{mostJobs, write, ofMode, declared, declaredAny}
 
--- the most urgent rank of a set, "65 means nobody": the one definition of nobody
-abbrev pub ceilingOf : ℕ → ℕ
-ceilingOf ranks = first mostJobs ranks
+-- the more urgent of two ranks or ceilings
+abbrev pub moreUrgent : ℕ → ℕ → ℕ
+moreUrgent a b = min a b
+
+-- "'Nobody' is one past the last rank.": "the job count plus one" (02, CR 4). The one definition of nobody
+abbrev pub nobody : Counts → ℕ
+nobody c = c .jobs + 1
+
+-- the most urgent rank of a set, and nobody where it has none: a set without ranks has its `first` past all ranks, so that nobody is the more urgent
+abbrev pub ceilingOf : Counts → ℕ → ℕ
+ceilingOf c ranks = moreUrgent (first mostJobs ranks) (nobody c)
 
 -- "The write ceiling of an object is the most urgent rank declared to write it"
 abbrev pub writeCeiling : State → ℕ → ℕ
-writeCeiling s o = ceilingOf (declared s write o)
+writeCeiling s o = ceilingOf (s .counts) (declared s write o)
 
 -- "the absolute ceiling the most urgent declared to read or write it"
 abbrev pub absoluteCeiling : State → ℕ → ℕ
-absoluteCeiling s o = ceilingOf (declaredAny s o)
-
--- the more urgent of two ranks
-abbrev pub moreUrgent : ℕ → ℕ → ℕ
-moreUrgent a b = min a b
+absoluteCeiling s o = ceilingOf (s .counts) (declaredAny s o)
 
 -- "A read lock weighs the more urgent of the write ceiling and its holder's own rank (the cap). A write lock weighs the absolute ceiling."
 unfoldable pub weight : State → ℕ → ℕ → ℕ → ℕ

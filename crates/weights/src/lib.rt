@@ -26,11 +26,18 @@ pub fn more_urgent(a: u16, b: u16) -> u16
     (first * is_first + second * is_second) as u16
 }
 
-// The most urgent rank of the set, and 65 for nobody.
-pub fn ceiling(set: RankSet) -> u16
-    ensures { λ r. ⌜ r ≡ W.ceilingOf set ⌝ }
+// Nobody: one past the last rank of the table. It is less urgent than every rank.
+fn nobody(counts: Counts) -> u16
+    ensures { λ r. ⌜ r ≡ W.nobody counts ⌝ }
 {
-    ranks::first(set) as u16
+    (counts.jobs as u16) + 1
+}
+
+// The most urgent rank of the set, and nobody where it has none: the first rank of an empty set is past all ranks, so that nobody is the more urgent.
+pub fn ceiling(counts: Counts, set: RankSet) -> u16
+    ensures { λ r. ⌜ r ≡ W.ceilingOf counts set ⌝ }
+{
+    more_urgent(ranks::first(set) as u16, nobody(counts))
 }
 
 // The lower of two keys.
@@ -62,26 +69,32 @@ pub fn key_object(key: u64) -> u8
 }
 
 // The lowest key among the read locks that the readers hold on the object.
-fn reader_key(readers: RankSet, may_write: RankSet, object: u8) -> u64
-    ensures { λ r. ⌜ r ≡ O.readerKey readers «may_write» object ⌝ }
+fn reader_key(counts: Counts, readers: RankSet, may_write: RankSet, object: u8) -> u64
+    ensures { λ r. ⌜ r ≡ O.readerKey counts readers «may_write» object ⌝ }
 {
     if ranks::is_empty(readers) {
         return NO_KEY;
     }
     let reader = ranks::first(readers);
-    let weight = more_urgent(ceiling(may_write), reader as u16);
+    let weight = more_urgent(ceiling(counts, may_write), reader as u16);
     lock_key(weight, reader, object)
 }
 
 // The lowest key among the write locks that the writers hold on the object.
-fn writer_key(writers: RankSet, may_read: RankSet, may_write: RankSet, object: u8) -> u64
-    ensures { λ r. ⌜ r ≡ O.writerKey writers «may_read» «may_write» object ⌝ }
+fn writer_key(
+    counts: Counts,
+    writers: RankSet,
+    may_read: RankSet,
+    may_write: RankSet,
+    object: u8,
+) -> u64
+    ensures { λ r. ⌜ r ≡ O.writerKey counts writers «may_read» «may_write» object ⌝ }
 {
     if ranks::is_empty(writers) {
         return NO_KEY;
     }
     lock_key(
-        ceiling(ranks::union(may_read, may_write)),
+        ceiling(counts, ranks::union(may_read, may_write)),
         ranks::first(writers),
         object,
     )
@@ -89,6 +102,7 @@ fn writer_key(writers: RankSet, may_read: RankSet, may_write: RankSet, object: u
 
 // The lowest key among the locks that others than the rank hold on the object.
 pub fn object_key(
+    counts: Counts,
     readers: RankSet,
     writers: RankSet,
     may_read: RankSet,
@@ -97,19 +111,26 @@ pub fn object_key(
     rank: u8,
 ) -> u64
     requires { ⌜ (1 ≤ rank) × (rank ≤ mostJobs) ⌝ }
-    ensures { λ r. ⌜ r ≡ O.objectKeyOf readers writers «may_read» «may_write» object rank ⌝ }
+    ensures { λ r. ⌜ r ≡ O.objectKeyOf counts readers writers «may_read» «may_write» object rank ⌝ }
 {
     if ranks::is_empty(ranks::union(readers, writers)) {
         return NO_KEY;
     }
     lower(
-        reader_key(ranks::without(readers, rank), may_write, object),
-        writer_key(ranks::without(writers, rank), may_read, may_write, object),
+        reader_key(counts, ranks::without(readers, rank), may_write, object),
+        writer_key(
+            counts,
+            ranks::without(writers, rank),
+            may_read,
+            may_write,
+            object,
+        ),
     )
 }
 
 // The same of an object by its number.
 pub fn key_at<'a>(
+    counts: Counts,
     may_read: Sets<'a>,
     may_write: Sets<'a>,
     readers: Sets<'a>,
@@ -118,10 +139,11 @@ pub fn key_at<'a>(
     rank: u8,
 ) -> u64
     requires { ⌜ (1 ≤ object) × (object ≤ mostObjects) × (1 ≤ rank) × (rank ≤ mostJobs) ⌝ }
-    ensures { λ r. ⌜ r ≡ P.keyAt (now («may_read» .entry)) (now («may_write» .entry)) (now (readers .entry)) (now (writers .entry)) rank object ⌝ }
+    ensures { λ r. ⌜ r ≡ P.keyAt counts (now («may_read» .entry)) (now («may_write» .entry)) (now (readers .entry)) (now (writers .entry)) rank object ⌝ }
 {
     let i = (object - 1) as usize;
     object_key(
+        counts,
         readers[i],
         writers[i],
         may_read[i],
@@ -148,7 +170,7 @@ pub fn lowest_key<'a>(
     let mut done: u8 = 0;
     while done < objects {
         done += 1;
-        let key = key_at(may_read, may_write, readers, writers, done, rank);
+        let key = key_at(counts, may_read, may_write, readers, writers, done, rank);
         lowest = lower(lowest, key);
     }
     lowest

@@ -6,7 +6,7 @@ use Prim.Native.Nat.{_≤_}
 use native.Mathlib.Omega.{arith}
 use Rattle.basics.specs.Arrays.{at}
 use Rattle.state.specs.State.{mostJobs, mostObjects, stateOf, grant, await}
-use Rattle.weights.specs.Weights.{weight}
+use Rattle.weights.specs.Weights.{ceilingOf, weight}
 use Rattle.weights.specs.Keys.{keyHolder, keyObject}
 use Rattle.rule.specs.Granting.{reason, reasonOf}
 use Rattle.weights.specs.Parts.{locksState, lowest-key-parts}
@@ -59,10 +59,13 @@ set-of-requires c κs = omega (arith, in-range ((c .before .before .before)), c 
 set-of-requires-2 : tie.Need-set-of-requires-2
 set-of-requires-2 c κs = omega (arith, in-range ((c .before .before .before .before)), c .before .before .key-object .ensures)
 
+ceiling-requires : tie.Need-ceiling-requires
+ceiling-requires c κs = search needs
+
 reason-requires : tie.Need-reason-requires
 reason-requires c κs =
-    let b = in-range ((c .before .before .before .before .before)) in
-    let h = c .before .before .before .before .key-holder .ensures in
+    let b = in-range ((c .before .before .before .before .before .before)) in
+    let h = c .before .before .before .before .before .key-holder .ensures in
     (omega arith, omega arith)
 
 mul-store-request : tie.Need-mul-store-request
@@ -77,19 +80,19 @@ store-request-requires c κs = search needs
 returns-2 : tie.Need-returns-2
 unfolding await
 returns-2 c =
-    let b = c .before .before .before .before .before .before .before .before .before .before .before .before .before .args in
-    let k = c .before .before .before .before .before .before .before .before .before .before .lowest-key .result in
-    let h = c .before .before .before .before .before .before .before .key-holder .ensures in
-    let o = c .before .before .before .before .before .before .key-object .ensures in
+    let b = c .before .before .before .before .before .before .before .before .before .before .before .before .before .before .args in
+    let k = c .before .before .before .before .before .before .before .before .before .before .before .lowest-key .result in
+    let h = c .before .before .before .before .before .before .before .before .key-holder .ensures in
+    let o = c .before .before .before .before .before .before .before .key-object .ensures in
     λ a u ps.
     let s = stateOf (b .counts) ps (now (b .may-read)) (now (b .may-write)) a u (now (b .readers)) (now (b .writers)) (now (b .request)) in
     let why : c .before .before .reason .result ≡ reason s (b .mode) (b .object) (keyHolder k) (keyObject k) =
     c .before .before .reason .ensures
-    ∙ (λ i. reasonOf (b .mode) (b .object) (h i) (o i) ((c .before .before .before .before .set-of .ensures ∙ ap (at (now (b .writers))) o) i) ((c .before .before .before .set-of2 .ensures ∙ ap (at (now (b .may-write))) o) i))
+    ∙ (λ i. reasonOf (b .mode) (b .object) (h i) (o i) ((c .before .before .before .before .before .set-of .ensures ∙ ap (at (now (b .writers))) o) i) ((c .before .before .before .ceiling .ensures ∙ ap (ceilingOf (b .counts)) (c .before .before .before .before .set-of2 .ensures ∙ ap (at (now (b .may-write))) o)) i))
     ∙ sym (reason-parts s (b .mode) (b .object) (keyHolder k) (keyObject k)) in
     (λ i. outcome (Waits (h i) (o i) (why i)) (stateOf (b .counts) ps (now (b .may-read)) (now (b .may-write)) a u (now (b .readers)) (now (b .writers)) (c .store-request .ensures i)))
-    ∙ sym (L.waits s (b .mode) (b .rank) (b .object) k (sym (c .before .before .before .before .before .before .before .before .before .passes .ensures) ∙ c .before .before .before .before .before .before .before .before .if1 .left))
-    ∙ ap (requestMeeting s (b .mode) (b .rank) (b .object)) (c .before .before .before .before .before .before .before .before .before .before .lowest-key .ensures ∙ sym (lowest-key-parts s (b .rank)))
+    ∙ sym (L.waits s (b .mode) (b .rank) (b .object) k (sym (c .before .before .before .before .before .before .before .before .before .before .passes .ensures) ∙ c .before .before .before .before .before .before .before .before .before .if1 .left))
+    ∙ ap (requestMeeting s (b .mode) (b .rank) (b .object)) (c .before .before .before .before .before .before .before .before .before .before .before .lowest-key .ensures ∙ sym (lowest-key-parts s (b .rank)))
 
 pub grant-or-wait-spec : {M : Type 1} → statement M
 grant-or-wait-spec =
@@ -103,6 +106,7 @@ grant-or-wait-spec =
     key-object-requires
     set-of-requires
     set-of-requires-2
+    ceiling-requires
     reason-requires
     mul-store-request
     add-store-request

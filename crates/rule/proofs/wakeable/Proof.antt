@@ -20,7 +20,7 @@ use Rattle.rule.proofs.wakeable.Tie as tie
 
 abbrev Inv-loop : tie.InvT-loop
 Inv-loop counts may-read may-write readers writers request rank at done₀ done =
-    (done ≤ counts .objects) × ((rank + 1) * 65536 ≤ least done noKey (keyAt may-read may-write readers writers rank))
+    (done ≤ counts .objects) × ((rank + 1) * 65536 ≤ least done noKey (keyAt counts may-read may-write readers writers rank))
 
 abbrev μ-loop : tie.MeasureT-loop
 μ-loop counts may-read may-write readers writers request rank at done₀ done = counts .objects - done
@@ -68,7 +68,7 @@ search-again : tie.Need-search-again Inv-loop μ-loop Inv-search μ-search
 search-again c =
     let a = c .before .before .before .before .before .before .before .before .before .before .before .args in
     let rank = c .before .before .before .before .before .before .before .before .before .before .search .rank in
-    let key = keyAt (now (a .may-read)) (now (a .may-write)) (now (a .readers)) (now (a .writers)) (rank + 1) (c .before .before .before .before .before .loop .done + 1) in
+    let key = keyAt (a .counts) (now (a .may-read)) (now (a .may-write)) (now (a .readers)) (now (a .writers)) (rank + 1) (c .before .before .before .before .before .loop .done + 1) in
     let stops : passesBelow (rank + 1) key ≡ false =
     ap (passesBelow (rank + 1)) (sym (c .before .before .key-at .ensures)) ∙ sym (c .before .passes .ensures) ∙ not-true _ (c .if4 .taken)
     in (
@@ -85,7 +85,7 @@ loop-again c =
     let rank = c .before .before .before .before .before .before .before .before .before .before .search .rank in
     let passed : passesBelow (rank + 1) (c .before .before .key-at .result) ≡ true = sym (c .before .passes .ensures) ∙ not-false _ (c .if4 .left) in (
       search needs,
-      omega (arith, ltb-true (rank + 1) (c .before .before .key-at .result / 65536) passed, c .before .before .key-at .ensures, least-more (c .before .before .before .before .before .loop .done) noKey (keyAt (now (a .may-read)) (now (a .may-write)) (now (a .readers)) (now (a .writers)) (rank + 1))),
+      omega (arith, ltb-true (rank + 1) (c .before .before .key-at .result / 65536) passed, c .before .before .key-at .ensures, least-more (c .before .before .before .before .before .loop .done) noKey (keyAt (a .counts) (now (a .may-read)) (now (a .may-write)) (now (a .readers)) (now (a .writers)) (rank + 1))),
     )
 
 search-less-2 : tie.Need-search-less-2 Inv-loop μ-loop Inv-search μ-search

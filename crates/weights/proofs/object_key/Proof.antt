@@ -20,7 +20,7 @@ returns c =
     let a = c .before .before .before .args in
     let none : union (a .readers) (a .writers) ≡ 0 =
     sym (c .before .before .union .ensures) ∙ eqb-true (c .before .before .union .result) 0 (sym (c .before .is-empty .ensures) ∙ c .if1 .taken) in
-    sym (object-key-none (a .readers) (a .writers) (a .may-read) (a .may-write) (a .object) (a .rank) none)
+    sym (object-key-none (a .counts) (a .readers) (a .writers) (a .may-read) (a .may-write) (a .object) (a .rank) none)
 
 without-requires : tie.Need-without-requires
 without-requires c κs = search needs

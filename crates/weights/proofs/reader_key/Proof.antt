@@ -15,7 +15,7 @@ is-empty-requires c κs = search needs
 returns : tie.Need-returns
 returns c =
     let a = c .before .before .args in
-    sym (reader-key-none (a .readers) (a .may-write) (a .object) (eqb-true (a .readers) 0 (sym (c .before .is-empty .ensures) ∙ c .if1 .taken)))
+    sym (reader-key-none (a .counts) (a .readers) (a .may-write) (a .object) (eqb-true (a .readers) 0 (sym (c .before .is-empty .ensures) ∙ c .if1 .taken)))
 
 first-requires : tie.Need-first-requires
 first-requires c κs = search needs
@@ -37,7 +37,7 @@ returns-2 c =
     let t = c .before .before .before .before in
     let a = t .before .before .args in
     let some : 0 < a .readers = omega (arith, eqb-false (a .readers) 0 (sym (t .before .is-empty .ensures) ∙ t .if1 .left)) in
-    cc (reader-key-first (a .object) (omega arith) (a .readers) (a .may-write) some (omega arith))
+    cc (reader-key-first (a .counts) (a .object) (omega arith) (a .readers) (a .may-write) some (omega arith))
 
 pub reader-key-spec : {M : Type 1} → statement M
 reader-key-spec =

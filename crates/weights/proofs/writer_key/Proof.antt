@@ -15,7 +15,7 @@ is-empty-requires c κs = search needs
 returns : tie.Need-returns
 returns c =
     let a = c .before .before .args in
-    sym (writer-key-none (a .writers) (a .may-read) (a .may-write) (a .object) (eqb-true (a .writers) 0 (sym (c .before .is-empty .ensures) ∙ c .if1 .taken)))
+    sym (writer-key-none (a .counts) (a .writers) (a .may-read) (a .may-write) (a .object) (eqb-true (a .writers) 0 (sym (c .before .is-empty .ensures) ∙ c .if1 .taken)))
 
 union-requires : tie.Need-union-requires
 union-requires c κs = search needs
@@ -34,7 +34,7 @@ returns-2 c =
     let t = c .before .before .before .before in
     let a = t .before .before .args in
     let some : 0 < a .writers = omega (arith, eqb-false (a .writers) 0 (sym (t .before .is-empty .ensures) ∙ t .if1 .left)) in
-    cc (writer-key-first (a .object) (omega arith) (a .writers) (a .may-read) (a .may-write) some (omega arith))
+    cc (writer-key-first (a .counts) (a .object) (omega arith) (a .writers) (a .may-read) (a .may-write) some (omega arith))
 
 pub writer-key-spec : {M : Type 1} → statement M
 writer-key-spec =

@@ -64,7 +64,7 @@ unfolding Q.askCeilings
 returns-2 c =
     let s = whole (c .before .before .before .before .before .before .before .before) in
     let o = c .before .before .before .before .before .before .before .before .args .object in
-    (λ i. CeilingsAnswer.Ceilings ((c .before .ceiling .ensures ∙ ap ceilingOf (c .before .before .before .before .set-of .ensures)) i) ((c .ceiling2 .ensures ∙ ap ceilingOf (c .before .before .union .ensures ∙ ap₂ union (c .before .before .before .set-of2 .ensures) (c .before .before .before .before .set-of .ensures))) i))
+    (λ i. CeilingsAnswer.Ceilings ((c .before .ceiling .ensures ∙ ap (ceilingOf (s .counts)) (c .before .before .before .before .set-of .ensures)) i) ((c .ceiling2 .ensures ∙ ap (ceilingOf (s .counts)) (c .before .before .union .ensures ∙ ap₂ union (c .before .before .before .set-of2 .ensures) (c .before .before .before .before .set-of .ensures))) i))
     ∙ sym (simp (eq-eqb (objectRefusal s o) 0 (not-refused ((c .before .before .before .before .before)))))
 
 pub ask-ceilings-spec : {M : Type 1} → statement M
