@@ -29,9 +29,6 @@ extern "C" {
 #define VONGSELIK_MOST_OBJECTS 128
 #define VONGSELIK_MOST_PROCESSORS 8
 
-/* A ceiling of an object that nobody may lock. */
-#define VONGSELIK_NOBODY 65
-
 /* A buffer of this length is long enough for every table that vongselik_write_table writes. */
 #define VONGSELIK_LONGEST_TABLE (10 + VONGSELIK_MOST_JOBS + 3 * VONGSELIK_MOST_JOBS * VONGSELIK_MOST_OBJECTS)
 
@@ -272,8 +269,11 @@ static inline uint8_t vongselik_named_lock(const vongselik_state *state, uint8_t
         state->readers, state->writers, state->request, rank, holder, object);
 }
 
+/* The ceiling of an object of the state's table that nobody is declared to lock in that way: one past the last rank. */
+#define VONGSELIK_NOBODY(state) ((uint16_t)((state)->jobs + 1))
+
 /* Sets *write_ceiling to the most urgent rank declared to write the object, and *absolute_ceiling to the most urgent declared to read or write it;
- * VONGSELIK_NOBODY if there is none. Answers 0.
+ * VONGSELIK_NOBODY(state) if there is none. Answers 0.
  * Refusals: 8, 11. The two ceilings are then as they were. */
 static inline uint8_t vongselik_ceilings(const vongselik_state *state, uint8_t object, uint16_t *write_ceiling, uint16_t *absolute_ceiling)
 {

@@ -101,7 +101,9 @@ static int print_table(const vongselik_state *state, size_t used)
     printf("table of %lu bytes: %d jobs, %d objects, %d processors\n", (unsigned long)used, state->jobs, state->objects, state->processors);
     for (object = 1; object <= state->objects; object++) {
         if (vongselik_ceilings(state, object, &write_ceiling, &absolute_ceiling)) return 0;
-        printf("    %s: write ceiling %d, absolute ceiling %d\n", object_name[object], write_ceiling, absolute_ceiling);
+        printf("    %s: write ceiling %d", object_name[object], write_ceiling);
+        if (write_ceiling == VONGSELIK_NOBODY(state)) printf(" (nobody)");
+        printf(", absolute ceiling %d\n", absolute_ceiling);
     }
     for (rank = 1; rank <= state->jobs; rank++) {
         vongselik_entries e = vongselik_job_entries(table, sizeof table, rank);

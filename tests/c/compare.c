@@ -2,7 +2,7 @@
  * too, and state pages with the questions. Prints how many calls agreed and how many did not.
  * Usage: compare [TABLES [EVENTS [SEED]]]: 1,000 tables, 120 events on each. Each event is one call; so is each table, part, state and question,
  * each list of events, once for every place where it is cut, each state page, once for every length of the buffer, each line of it beside the questions,
- * and each name of the header. */
+ * each ceiling beside nobody's, and each name of the header. */
 #include <stdio.h>
 #include <stdlib.h>
 #include <string.h>
@@ -12,6 +12,9 @@
 #include "vongselik.h"
 
 static unsigned long passed, failed;
+
+/* In a run of so many tables, each kind of page and of ceiling that is counted has to occur. */
+enum { ENOUGH = 200 };
 
 /* Counts one compared call; says what differs, the first few times. */
 static void check(int same, const char *what)
@@ -43,7 +46,16 @@ static void compare_names(void)
     for (i = 1; i <= 3; i++) check(reasons[i] == i, "a reason's number");
     for (i = 0; i <= 22; i++) check(refusals[i] == i, "a refusal's number");
     check(VONGSELIK_MOST_JOBS == 64 && VONGSELIK_MOST_OBJECTS == 128 && VONGSELIK_MOST_PROCESSORS == 8, "a limit");
-    check(VONGSELIK_NOBODY == 65 && VONGSELIK_LONGEST_TABLE == 10 + 64 + 3 * 8192 && VONGSELIK_LONGEST_PAGE == 64 * 21, "a limit");
+    check(VONGSELIK_LONGEST_TABLE == 10 + 64 + 3 * 8192 && VONGSELIK_LONGEST_PAGE == 64 * 21, "a limit");
+}
+
+/* Nobody's ceiling by the number of jobs in a state. */
+static void compare_nobody(void)
+{
+    static const vongselik_state states[] = {{.jobs = 1}, {.jobs = 4}, {.jobs = 64}};
+    static const int ceilings[] = {2, 5, 65};
+    int i;
+    for (i = 0; i < 3; i++) check(VONGSELIK_NOBODY(states + i) == ceilings[i], "nobody's ceiling by the number of jobs");
 }
 
 /* ---- Tables */
@@ -103,10 +115,54 @@ static void compare_tables(vongselik_state *s, uint8_t *bytes, size_t *used)
 
 /* ---- Questions */
 
+/* How many ceilings were nobody's with 64 jobs, and how many with fewer. */
+static unsigned long nobody_of_64, nobody_of_fewer;
+
+/* A ceiling that the library gave: nobody's exactly where the set of the ranks that are declared is empty. */
+static void compare_ceiling(const vongselik_state *s, uint64_t declared, uint16_t ceiling)
+{
+    check((ceiling == VONGSELIK_NOBODY(s)) == (declared == 0), "nobody's ceiling");
+    if (declared) return;
+    if (s->jobs == 64) nobody_of_64++;
+    else nobody_of_fewer++;
+}
+
+static void compare_ceilings(const vongselik_state *s, const model *m, int object)
+{
+    uint16_t write = 203, absolute = 204;
+    int model_write = 203, model_absolute = 204;
+    int refusal = model_ceilings(m, object, &model_write, &model_absolute);
+    int number = vongselik_ceilings(s, (uint8_t)object, &write, &absolute);
+    check(number == refusal && write == model_write && absolute == model_absolute, "ceilings");
+    if (refusal) return;
+    compare_ceiling(s, s->may_write[object - 1], write);
+    compare_ceiling(s, s->may_read[object - 1] | s->may_write[object - 1], absolute);
+}
+
+/* The ceilings of the last object of a fresh state: as declared, with nobody to write it, and with nobody to read it either. */
+static void compare_last_object(const vongselik_state *fresh)
+{
+    vongselik_state s = *fresh;
+    model m;
+    int last = s.objects, taken;
+    for (taken = 0; taken <= 2; taken++) {
+        if (taken >= 1) s.may_write[last - 1] = 0;
+        if (taken >= 2) s.may_read[last - 1] = 0;
+        model_from(&m, &s);
+        compare_ceilings(&s, &m, last);
+    }
+}
+
+/* Prints how many ceilings were nobody's, and checks that there were some. */
+static void check_nobody_occurred(int tables)
+{
+    printf("%lu ceilings of nobody: %lu with 64 jobs, %lu with fewer\n", nobody_of_64 + nobody_of_fewer, nobody_of_64, nobody_of_fewer);
+    if (tables >= ENOUGH) check(nobody_of_64 && nobody_of_fewer, "a ceiling that has to occur does not");
+}
+
 static void compare_questions(const vongselik_state *s, const model *m, int all)
 {
     uint8_t a = 201, b = 202;
-    uint16_t c = 203, d = 204;
     int x = 201, y = 202, rank = about(m->jobs ? m->jobs : 1), object = about(m->objects ? m->objects : 1), refusal, number;
     refusal = model_inherited_rank(m, rank, &x);
     number = vongselik_inherited_rank(s, (uint8_t)rank, &a);
@@ -115,10 +171,7 @@ static void compare_questions(const vongselik_state *s, const model *m, int all)
     refusal = model_named_lock(m, rank, &x, &y);
     number = vongselik_named_lock(s, (uint8_t)rank, &a, &b);
     check(number == refusal && a == x && b == y, "named_lock");
-    x = 203, y = 204;
-    refusal = model_ceilings(m, object, &x, &y);
-    number = vongselik_ceilings(s, (uint8_t)object, &c, &d);
-    check(number == refusal && c == x && d == y, "ceilings");
+    compare_ceilings(s, m, object);
     if (!all) return;
     x = 201, a = 201, object = below(6) ? below(m->processors ? m->processors : 1) : below(256);
     refusal = model_running(m, object, &x);
@@ -131,9 +184,8 @@ static void compare_questions(const vongselik_state *s, const model *m, int all)
 /* The most that is lent for a page, the bytes before it and behind it, which nobody may write, and all of them. */
 enum { LENT = VONGSELIK_LONGEST_PAGE + 100, AROUND = 30, PAGE_ROOM = AROUND + LENT + AROUND };
 
-/* How many pages had no line, how many a line for each of 64 jobs, how many were refused by 22, and how many lines were of a waiting job that names nobody.
- * In a run of enough tables each has to occur. */
-enum { ENOUGH = 200 };
+/* How many pages had no line, how many a line for each of 64 jobs, how many were refused by 22, and how many lines were of a waiting job that names
+ * nobody. */
 static unsigned long empty_pages, longest_pages, short_buffers, naming_nobody;
 
 /* The page in a buffer of this length, compared with the model: the answer, the length, each byte of the buffer and around it, and that the state is
@@ -343,6 +395,7 @@ static void compare_table(int events)
     size_t used;
     int i, k;
     compare_tables(&s, bytes, &used);
+    compare_last_object(&s);
     model_from(&m, &s);
     compare_page(&s, &m);
     for (i = 0; i < events; i++) {
@@ -370,11 +423,13 @@ int main(int argc, char **argv)
     int tables = argc > 1 ? atoi(argv[1]) : 1000, events = argc > 2 ? atoi(argv[2]) : 120, i;
     unsigned long start = argc > 3 ? strtoul(argv[3], NULL, 10) : 1;
     compare_names();
+    compare_nobody();
     for (i = 0; i < tables; i++) {
         begin_inputs(start, i);
         compare_table(events);
     }
     printf("%d tables, %lu events in their order\n", tables, (unsigned long)tables * (unsigned long)events);
+    check_nobody_occurred(tables);
     check_pages_occurred(tables);
     printf("%lu passed, %lu failed\n", passed, failed);
     return failed ? 1 : 0;

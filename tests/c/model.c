@@ -1,4 +1,4 @@
-/* The rule of document 01, with CR 1 and CR 2 of document 02, written a second time: see model.h. */
+/* The rule of document 01, with CR 1, CR 2 and CR 4 of document 02, written a second time: see model.h. */
 #include "model.h"
 
 #include <stdio.h>
@@ -65,17 +65,23 @@ static int held_already(const model *m, int mode, int rank, int object)
     return m->writes[object][rank] || (mode == 1 && m->reads[object][rank]);
 }
 
+/* The ceiling where nobody is declared: one past the last rank. */
+static int nobody(const model *m)
+{
+    return m->jobs + 1;
+}
+
 static int write_ceiling(const model *m, int object)
 {
     int r = 1;
-    while (r <= 64 && !m->may_write[object][r]) r++;
+    while (r < nobody(m) && !m->may_write[object][r]) r++;
     return r;
 }
 
 static int absolute_ceiling(const model *m, int object)
 {
     int r = 1;
-    while (r <= 64 && !m->may_write[object][r] && !m->may_read[object][r]) r++;
+    while (r < nobody(m) && !m->may_write[object][r] && !m->may_read[object][r]) r++;
     return r;
 }
 

@@ -1,5 +1,5 @@
-/* The rule of document 01, with CR 1 and CR 2 of document 02, written a second time, as plainly as possible: sets are tables of flags, loops go over
- * every job and object. */
+/* The rule of document 01, with CR 1, CR 2 and CR 4 of document 02, written a second time, as plainly as possible: sets are tables of flags, loops go
+ * over every job and object. */
 #ifndef MODEL_H
 #define MODEL_H
 
