@@ -1,3 +1,4 @@
 mod TopBits
+mod PutIn
 mod Firsts
 mod Sets

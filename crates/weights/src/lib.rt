@@ -1,7 +1,8 @@
 // Ceilings, what a lock weighs, and the key that orders locks: the lock that stops a request has the lowest.
 // A function sees the parts of a state that it asks about: an object's sets of ranks by value, an object's array by reference.
 ghost use mathlib.Core.Path.{_≡_};
-ghost use Prim.Native.Nat.{_≤_, min};
+ghost use Prim.Native.Nat.{ℕ, _≤_, min};
+ghost use Rattle.ranks.specs.Ranks.{first, union};
 ghost use Rattle.state.specs.State.{mostJobs, mostObjects};
 ghost use Rattle.weights.specs.Weights as W;
 ghost use Rattle.weights.specs.Keys as K;
@@ -26,18 +27,23 @@ pub fn more_urgent(a: u16, b: u16) -> u16
     (first * is_first + second * is_second) as u16
 }
 
-// Nobody: one past the last rank of the table. It is less urgent than every rank.
-fn nobody(counts: Counts) -> u16
-    ensures { λ r. ⌜ r ≡ W.nobody counts ⌝ }
+// Nobody as a set of ranks, to be put into another: the one rank past the last of the table. It is the most urgent there only where there is no other.
+// With 64 jobs no set has that rank, and none is needed: the first rank of an empty set is past all, and that is nobody.
+fn nobody(counts: Counts) -> RankSet
+    ensures { λ r. ⌜ ((set : ℕ) → first mostJobs (union set r) ≡ W.ceilingOf counts set) ⌝ }
 {
-    (counts.jobs as u16) + 1
+    if counts.jobs < 64 {
+        ranks::with(ranks::EMPTY, counts.jobs + 1)
+    } else {
+        ranks::EMPTY
+    }
 }
 
-// The most urgent rank of the set, and nobody where it has none: the first rank of an empty set is past all ranks, so that nobody is the more urgent.
+// The most urgent rank of the set, and nobody where it has none.
 pub fn ceiling(counts: Counts, set: RankSet) -> u16
     ensures { λ r. ⌜ r ≡ W.ceilingOf counts set ⌝ }
 {
-    more_urgent(ranks::first(set) as u16, nobody(counts))
+    ranks::first(ranks::union(set, nobody(counts))) as u16
 }
 
 // The lower of two keys.
