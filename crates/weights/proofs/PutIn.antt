@@ -23,12 +23,13 @@ first-alone r low high = first-is mostJobs (with 0 r) r (member-with-same 0 r lo
       | no d ↦ absurd (clash m (member-with-other 0 r q (λ e. d (sym e)) ∙ member-empty q))
     ]
 
-module _ (c : Counts) (set : ℕ) where
+module _ (c : Counts) (set past : ℕ) where
   -- a set can have the rank past the last
-  pub nobody-in : c .jobs < mostJobs → first mostJobs (union set (with 0 (c .jobs + 1))) ≡ ceilingOf c set
-  nobody-in l =
-      first-union mostJobs set (with 0 (c .jobs + 1)) ∙ ap (min (first mostJobs set)) (first-alone (c .jobs + 1) (omega arith) (omega arith))
+  pub nobody-in : c .jobs < mostJobs → past ≡ with 0 (c .jobs + 1) → first mostJobs (union set past) ≡ ceilingOf c set
+  nobody-in l e =
+      first-union mostJobs set past
+      ∙ ap (min (first mostJobs set)) (ap (first mostJobs) e ∙ first-alone (c .jobs + 1) (omega arith) (omega arith))
 
   -- it can not
-  pub nobody-past : mostJobs ≤ c .jobs → first mostJobs (union set 0) ≡ ceilingOf c set
-  nobody-past l = first-union mostJobs set 0 ∙ omega (arith, first-empty mostJobs, first-le mostJobs set)
+  pub nobody-past : mostJobs ≤ c .jobs → past ≡ 0 → first mostJobs (union set past) ≡ ceilingOf c set
+  nobody-past l e = first-union mostJobs set past ∙ omega (arith, ap (first mostJobs) e, first-empty mostJobs, first-le mostJobs set)
