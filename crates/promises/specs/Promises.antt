@@ -8,6 +8,7 @@ use mathlib.Core.List.{List, [], _∷_}
 use Prim.Native.Nat.{ℕ, zero, suc}
 use lib.ListN.{getD}
 use Rattle.basics.specs.Choice.{between}
+use Rattle.ranks.specs.RankLaws.{first-empty}
 use Rattle.state.specs.declared.State.{State}
 use Rattle.state.specs.State.{mostJobs, write, isObject, declared, declaredAny, holds, isWaiting}
 use Rattle.state.specs.WellFormed.{wellFormed}
@@ -37,7 +38,7 @@ use Rattle.promises.specs.ReachedStates.{kept, fresh-facts, fresh-view, 
 use Rattle.promises.specs.Waking.{blocked-not-woken, nobody-left}
 use Rattle.promises.specs.Requests.{granted-exactly, waits-for}
 use Rattle.promises.specs.OldRule.{one-request}
-use Rattle.promises.specs.NobodyAs65.{step65, askInheritedRank65, askNamedLock65, askCeilings65, askRunning65}
+use Rattle.promises.specs.NobodyAs65.{ceiling65, step65, askInheritedRank65, askNamedLock65, askCeilings65, askRunning65}
 use Rattle.promises.specs.Nobody.{step-same, ask-inherited-same, ask-named-same, ask-running-same, ask-ceilings-are, ask-ceilings-64}
 
 -- ---- DEMAND 3
@@ -120,7 +121,10 @@ one-processor {t} r one e kind run ok =
     ap (λ x. paper (x .answer)) (one-request t (kept r) one (e .kind) (e .rank) (e .object) kind run ok)
 
 -- ---- NOBODY IS ONE PAST THE LAST RANK
--- 02, CR 4, of any well-formed state, handed in or reached. The rule with 65 for nobody, which stood before, is in NobodyAs65.antt.
+-- 02, CR 4, of any well-formed state, handed in or reached. The rule with 65 for nobody, which stood before, is in NobodyAs65.antt:
+pub nobody-was : ceiling65 0 ≡ 65
+nobody-was = first-empty mostJobs
+
 module _ (s : State) (sized : Sized s) (well : wellFormed s ≡ true) where
   -- The question for an object of the table gives, first for the ranks that are declared to write it and then for all that are declared, the most
   -- urgent rank; and where there is none, "the job count plus one".
