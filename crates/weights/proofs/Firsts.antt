@@ -15,7 +15,7 @@ use Rattle.ranks.specs.UnionLaws.{empty-union}
 use Rattle.state.specs.declared.Counts.{Counts}
 use Rattle.state.specs.State.{mostJobs}
 use Rattle.weights.specs.Weights.{ceilingOf, moreUrgent}
-use Rattle.weights.specs.Keys.{lockKey, noKey, no-key-above}
+use Rattle.weights.specs.Keys.{lockKey, noWeight, noKey, no-key-above}
 use Rattle.weights.specs.ObjectKeys.{readerKey, writerKey, objectKeyOf}
 
 module _ (k top set : ℕ) (f : ℕ → ℕ) where
@@ -40,34 +40,33 @@ module _ (k top set : ℕ) (f : ℕ → ℕ) where
       from r true m = grows (first k set) r (first-least k set r m)
       from r false m = below (first k set) l
 
-module _ (c : Counts) (o : ℕ) (h : o < 256) where
-  pub reader-key-first : (readers mayWrite : ℕ) → 0 < readers → readers < 2 ^ mostJobs
-      → readerKey c readers mayWrite o ≡ lockKey (moreUrgent (ceilingOf c mayWrite) (first mostJobs readers)) (first mostJobs readers) o
+module _ (o : ℕ) (h : o < 256) where
+  pub reader-key-first : (readers ceiling : ℕ) → 0 < readers → readers < 2 ^ mostJobs
+      → readerKey readers ceiling o ≡ lockKey (moreUrgent ceiling (first mostJobs readers)) (first mostJobs readers) o
   unfolding readerKey
-  reader-key-first readers mayWrite p b =
-      least-first mostJobs noKey readers (λ r. lockKey (moreUrgent (ceilingOf c mayWrite) r) r o)
+  reader-key-first readers ceiling p b =
+      least-first mostJobs noKey readers (λ r. lockKey (moreUrgent ceiling r) r o)
       (λ q r l. omega arith)
-      (λ r l. omega (arith, no-key-above (moreUrgent (ceilingOf c mayWrite) r) r o (omega arith) (omega arith) h)) (first-some mostJobs readers p b)
+      (λ r l. omega (arith, no-key-above (moreUrgent ceiling r) r o (omega arith) (omega arith) h)) (first-some mostJobs readers p b)
 
-  pub writer-key-first : (writers mayRead mayWrite : ℕ) → 0 < writers → writers < 2 ^ mostJobs
-      → writerKey c writers mayRead mayWrite o ≡ lockKey (ceilingOf c (union mayRead mayWrite)) (first mostJobs writers) o
+  pub writer-key-first : (writers ceiling : ℕ) → ceiling < noWeight → 0 < writers → writers < 2 ^ mostJobs
+      → writerKey writers ceiling o ≡ lockKey ceiling (first mostJobs writers) o
   unfolding writerKey
-  writer-key-first writers mayRead mayWrite p b =
-      least-first mostJobs noKey writers (λ r. lockKey (ceilingOf c (union mayRead mayWrite)) r o)
+  writer-key-first writers ceiling small p b =
+      least-first mostJobs noKey writers (λ r. lockKey ceiling r o)
       (λ q r l. omega arith)
-      (λ r l. omega (arith, no-key-above (ceilingOf c (union mayRead mayWrite)) r o (omega (arith, first-le mostJobs (union mayRead mayWrite))) (omega arith) h))
-      (first-some mostJobs writers p b)
+      (λ r l. omega (arith, no-key-above ceiling r o small (omega arith) h)) (first-some mostJobs writers p b)
 
 -- no lock, no key
-pub reader-key-none : (c : Counts) (readers mayWrite o : ℕ) → readers ≡ 0 → readerKey c readers mayWrite o ≡ noKey
+pub reader-key-none : (readers ceiling o : ℕ) → readers ≡ 0 → readerKey readers ceiling o ≡ noKey
 unfolding readerKey
-reader-key-none c readers mayWrite o e =
-    least-empty mostJobs noKey readers (λ r. lockKey (moreUrgent (ceilingOf c mayWrite) r) r o) (λ r. ap (λ (set : ℕ). member set r) e ∙ member-empty r)
+reader-key-none readers ceiling o e =
+    least-empty mostJobs noKey readers (λ r. lockKey (moreUrgent ceiling r) r o) (λ r. ap (λ (set : ℕ). member set r) e ∙ member-empty r)
 
-pub writer-key-none : (c : Counts) (writers mayRead mayWrite o : ℕ) → writers ≡ 0 → writerKey c writers mayRead mayWrite o ≡ noKey
+pub writer-key-none : (writers ceiling o : ℕ) → writers ≡ 0 → writerKey writers ceiling o ≡ noKey
 unfolding writerKey
-writer-key-none c writers mayRead mayWrite o e =
-    least-empty mostJobs noKey writers (λ r. lockKey (ceilingOf c (union mayRead mayWrite)) r o) (λ r. ap (λ (set : ℕ). member set r) e ∙ member-empty r)
+writer-key-none writers ceiling o e =
+    least-empty mostJobs noKey writers (λ r. lockKey ceiling r o) (λ r. ap (λ (set : ℕ). member set r) e ∙ member-empty r)
 
 pub object-key-none : (c : Counts) (readers writers mayRead mayWrite o j : ℕ) → union readers writers ≡ 0 → objectKeyOf c readers writers mayRead mayWrite o j ≡ noKey
 unfolding objectKeyOf
@@ -76,5 +75,5 @@ object-key-none c readers writers mayRead mayWrite o j e =
     let no-reader : readers ≡ 0 = eqb-true readers 0 (and-left (eqb readers 0) (eqb writers 0) both) in
     let no-writer : writers ≡ 0 = eqb-true writers 0 (and-right (eqb readers 0) (eqb writers 0) both) in
     ap₂ min
-    (reader-key-none c (without readers j) mayWrite o (ap (λ (set : ℕ). without set j) no-reader ∙ without-empty j))
-    (writer-key-none c (without writers j) mayRead mayWrite o (ap (λ (set : ℕ). without set j) no-writer ∙ without-empty j))
+    (reader-key-none (without readers j) (ceilingOf c mayWrite) o (ap (λ (set : ℕ). without set j) no-reader ∙ without-empty j))
+    (writer-key-none (without writers j) (ceilingOf c (union mayRead mayWrite)) o (ap (λ (set : ℕ). without set j) no-writer ∙ without-empty j))

@@ -21,18 +21,18 @@ use Rattle.weights.specs.Keys.{lockKey, noKey, othersKey, objectKey}
 abbrev pub heldKey : ℕ → ℕ → ℕ → ℕ → ℕ
 heldKey holders weighs o r = if member holders r then lockKey weighs r o else noKey
 
--- the lowest key among the read locks on o
-unfoldable pub readerKey : Counts → ℕ → ℕ → ℕ → ℕ
-readerKey c readers mayWrite o = least mostJobs noKey (λ r. heldKey readers (moreUrgent (ceilingOf c mayWrite) r) o r)
+-- the lowest key among the read locks on o, by its write ceiling
+unfoldable pub readerKey : ℕ → ℕ → ℕ → ℕ
+readerKey readers writeCeiling o = least mostJobs noKey (λ r. heldKey readers (moreUrgent writeCeiling r) o r)
 
--- the lowest key among the write locks on o
-unfoldable pub writerKey : Counts → ℕ → ℕ → ℕ → ℕ → ℕ
-writerKey c writers mayRead mayWrite o = least mostJobs noKey (heldKey writers (ceilingOf c (union mayRead mayWrite)) o)
+-- the lowest key among the write locks on o, by its absolute ceiling
+unfoldable pub writerKey : ℕ → ℕ → ℕ → ℕ
+writerKey writers absoluteCeiling o = least mostJobs noKey (heldKey writers absoluteCeiling o)
 
 -- the lowest key among the locks that others than j hold on o: "Own locks don't count."
 unfoldable pub objectKeyOf : Counts → ℕ → ℕ → ℕ → ℕ → ℕ → ℕ → ℕ
 objectKeyOf c readers writers mayRead mayWrite o j =
-    min (readerKey c (without readers j) mayWrite o) (writerKey c (without writers j) mayRead mayWrite o)
+    min (readerKey (without readers j) (ceilingOf c mayWrite) o) (writerKey (without writers j) (ceilingOf c (union mayRead mayWrite)) o)
 
 -- ---- the lowest key on an object of a state
 

@@ -1,7 +1,7 @@
 // Ceilings, what a lock weighs, and the key that orders locks: the lock that stops a request has the lowest.
 // A function sees the parts of a state that it asks about: an object's sets of ranks by value, an object's array by reference.
 ghost use mathlib.Core.Path.{_≡_};
-ghost use Prim.Native.Nat.{ℕ, _≤_, min};
+ghost use Prim.Native.Nat.{ℕ, _≤_, _<_, min};
 ghost use Rattle.ranks.specs.Ranks.{first, union};
 ghost use Rattle.state.specs.State.{mostJobs, mostObjects};
 ghost use Rattle.weights.specs.Weights as W;
@@ -74,36 +74,27 @@ pub fn key_object(key: u64) -> u8
     (key % 256) as u8
 }
 
-// The lowest key among the read locks that the readers hold on the object.
-fn reader_key(counts: Counts, readers: RankSet, may_write: RankSet, object: u8) -> u64
-    ensures { λ r. ⌜ r ≡ O.readerKey counts readers «may_write» object ⌝ }
+// The lowest key among the read locks that the readers hold on the object, which has the write ceiling.
+fn reader_key(readers: RankSet, write_ceiling: u16, object: u8) -> u64
+    ensures { λ r. ⌜ r ≡ O.readerKey readers «write_ceiling» object ⌝ }
 {
     if ranks::is_empty(readers) {
         return NO_KEY;
     }
     let reader = ranks::first(readers);
-    let weight = more_urgent(ceiling(counts, may_write), reader as u16);
+    let weight = more_urgent(write_ceiling, reader as u16);
     lock_key(weight, reader, object)
 }
 
-// The lowest key among the write locks that the writers hold on the object.
-fn writer_key(
-    counts: Counts,
-    writers: RankSet,
-    may_read: RankSet,
-    may_write: RankSet,
-    object: u8,
-) -> u64
-    ensures { λ r. ⌜ r ≡ O.writerKey counts writers «may_read» «may_write» object ⌝ }
+// The lowest key among the write locks that the writers hold on the object, which has the absolute ceiling.
+fn writer_key(writers: RankSet, absolute_ceiling: u16, object: u8) -> u64
+    requires { ⌜ «absolute_ceiling» < K.noWeight ⌝ }
+    ensures { λ r. ⌜ r ≡ O.writerKey writers «absolute_ceiling» object ⌝ }
 {
     if ranks::is_empty(writers) {
         return NO_KEY;
     }
-    lock_key(
-        ceiling(counts, ranks::union(may_read, may_write)),
-        ranks::first(writers),
-        object,
-    )
+    lock_key(absolute_ceiling, ranks::first(writers), object)
 }
 
 // The lowest key among the locks that others than the rank hold on the object.
@@ -123,12 +114,14 @@ pub fn object_key(
         return NO_KEY;
     }
     lower(
-        reader_key(counts, ranks::without(readers, rank), may_write, object),
+        reader_key(
+            ranks::without(readers, rank),
+            ceiling(counts, may_write),
+            object,
+        ),
         writer_key(
-            counts,
             ranks::without(writers, rank),
-            may_read,
-            may_write,
+            ceiling(counts, ranks::union(may_read, may_write)),
             object,
         ),
     )

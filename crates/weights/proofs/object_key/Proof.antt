@@ -25,11 +25,20 @@ returns c =
 without-requires : tie.Need-without-requires
 without-requires c κs = search needs
 
+ceiling-requires : tie.Need-ceiling-requires
+ceiling-requires c κs = search needs
+
 reader-key-requires : tie.Need-reader-key-requires
 reader-key-requires c κs = search needs
 
 without-requires-2 : tie.Need-without-requires-2
 without-requires-2 c κs = search needs
+
+union-requires-2 : tie.Need-union-requires-2
+union-requires-2 c κs = search needs
+
+ceiling-requires-2 : tie.Need-ceiling-requires-2
+ceiling-requires-2 c κs = search needs
 
 writer-key-requires : tie.Need-writer-key-requires
 writer-key-requires c κs = search needs
@@ -49,8 +58,11 @@ object-key-spec =
     is-empty-requires
     returns
     without-requires
+    ceiling-requires
     reader-key-requires
     without-requires-2
+    union-requires-2
+    ceiling-requires-2
     writer-key-requires
     lower-requires
     returns-2)

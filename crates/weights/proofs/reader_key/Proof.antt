@@ -15,13 +15,10 @@ is-empty-requires c κs = search needs
 returns : tie.Need-returns
 returns c =
     let a = c .before .before .args in
-    sym (reader-key-none (a .counts) (a .readers) (a .may-write) (a .object) (eqb-true (a .readers) 0 (sym (c .before .is-empty .ensures) ∙ c .if1 .taken)))
+    sym (reader-key-none (a .readers) (a .write-ceiling) (a .object) (eqb-true (a .readers) 0 (sym (c .before .is-empty .ensures) ∙ c .if1 .taken)))
 
 first-requires : tie.Need-first-requires
 first-requires c κs = search needs
-
-ceiling-requires : tie.Need-ceiling-requires
-ceiling-requires c κs = search needs
 
 cast-more-urgent : tie.Need-cast-more-urgent
 cast-more-urgent c = search needs
@@ -34,10 +31,10 @@ lock-key-requires c κs = search needs
 
 returns-2 : tie.Need-returns-2
 returns-2 c =
-    let t = c .before .before .before .before in
+    let t = c .before .before .before in
     let a = t .before .before .args in
     let some : 0 < a .readers = omega (arith, eqb-false (a .readers) 0 (sym (t .before .is-empty .ensures) ∙ t .if1 .left)) in
-    cc (reader-key-first (a .counts) (a .object) (omega arith) (a .readers) (a .may-write) some (omega arith))
+    cc (reader-key-first (a .object) (omega arith) (a .readers) (a .write-ceiling) some (omega arith))
 
 pub reader-key-spec : {M : Type 1} → statement M
 reader-key-spec =
@@ -46,7 +43,6 @@ reader-key-spec =
     is-empty-requires
     returns
     first-requires
-    ceiling-requires
     cast-more-urgent
     more-urgent-requires
     lock-key-requires

@@ -15,13 +15,7 @@ is-empty-requires c κs = search needs
 returns : tie.Need-returns
 returns c =
     let a = c .before .before .args in
-    sym (writer-key-none (a .counts) (a .writers) (a .may-read) (a .may-write) (a .object) (eqb-true (a .writers) 0 (sym (c .before .is-empty .ensures) ∙ c .if1 .taken)))
-
-union-requires : tie.Need-union-requires
-union-requires c κs = search needs
-
-ceiling-requires : tie.Need-ceiling-requires
-ceiling-requires c κs = search needs
+    sym (writer-key-none (a .writers) (a .absolute-ceiling) (a .object) (eqb-true (a .writers) 0 (sym (c .before .is-empty .ensures) ∙ c .if1 .taken)))
 
 first-requires : tie.Need-first-requires
 first-requires c κs = search needs
@@ -31,11 +25,11 @@ lock-key-requires c κs = search needs
 
 returns-2 : tie.Need-returns-2
 returns-2 c =
-    let t = c .before .before .before .before in
+    let t = c .before .before in
     let a = t .before .before .args in
     let some : 0 < a .writers = omega (arith, eqb-false (a .writers) 0 (sym (t .before .is-empty .ensures) ∙ t .if1 .left)) in
-    cc (writer-key-first (a .counts) (a .object) (omega arith) (a .writers) (a .may-read) (a .may-write) some (omega arith))
+    cc (writer-key-first (a .object) (omega arith) (a .writers) (a .absolute-ceiling) (omega arith) some (omega arith))
 
 pub writer-key-spec : {M : Type 1} → statement M
 writer-key-spec =
-    tie.close (tie.spec is-empty-requires returns union-requires ceiling-requires first-requires lock-key-requires returns-2)
+    tie.close (tie.spec is-empty-requires returns first-requires lock-key-requires returns-2)
