@@ -10,7 +10,7 @@ use borrow.Author.Tests.{eqb-true, eq-eqb}
 use Rattle.basics.specs.Choice.{if_then_else_, and-left, and-right}
 use Rattle.basics.specs.Loops.{least, least-top, least-le, le-least}
 use Rattle.ranks.specs.Ranks.{member, without, first, union}
-use Rattle.ranks.specs.RankLaws.{first-least, first-member, first-pos, first-le, first-some, member-empty, without-empty}
+use Rattle.ranks.specs.RankLaws.{first-least, first-member, first-pos, first-some, member-empty, without-empty}
 use Rattle.ranks.specs.UnionLaws.{empty-union}
 use Rattle.state.specs.declared.Counts.{Counts}
 use Rattle.state.specs.State.{mostJobs}

@@ -74,7 +74,7 @@ pub fn key_object(key: u64) -> u8
     (key % 256) as u8
 }
 
-// The lowest key among the read locks that the readers hold on the object, which has the write ceiling.
+// The lowest key among the read locks that the readers hold on the object, by its write ceiling.
 fn reader_key(readers: RankSet, write_ceiling: u16, object: u8) -> u64
     ensures { λ r. ⌜ r ≡ O.readerKey readers «write_ceiling» object ⌝ }
 {
@@ -86,7 +86,7 @@ fn reader_key(readers: RankSet, write_ceiling: u16, object: u8) -> u64
     lock_key(weight, reader, object)
 }
 
-// The lowest key among the write locks that the writers hold on the object, which has the absolute ceiling.
+// The lowest key among the write locks that the writers hold on the object, by its absolute ceiling.
 fn writer_key(writers: RankSet, absolute_ceiling: u16, object: u8) -> u64
     requires { ⌜ «absolute_ceiling» < K.noWeight ⌝ }
     ensures { λ r. ⌜ r ≡ O.writerKey writers «absolute_ceiling» object ⌝ }
