@@ -36,8 +36,8 @@ namedHolder s j = keyHolder (namedKey s j)
 abbrev pub namedObject : State → ℕ → ℕ
 namedObject s j = keyObject (namedKey s j)
 
--- why a request for o in mode m waits for the lock that h holds on p, whose writers and write ceiling are given:
--- "1 conflict, if the named lock is on the requested object and either is a write; else 3 cap, if it is a read lock whose holder is more urgent than the write ceiling; else 2 ceiling"
+-- why a request for o in mode m waits for the lock that h holds on p, whose writers and write ceiling are given: "1 conflict, if the named lock is on
+-- the requested object and either is a write; else 3 cap, if it is a read lock whose holder is more urgent than the write ceiling; else 2 ceiling"
 abbrev pub reasonOf : ℕ → ℕ → ℕ → ℕ → ℕ → ℕ → ℕ
 reasonOf m o h p writers ceiling =
     1 if eqb p o && (eqb m write || member writers h) else
