@@ -7,6 +7,7 @@ use mathlib.Core.Logic.{_⊎_, inl, inr}
 use mathlib.Core.Bool.{Bool, true, false, not, _&&_, _||_}
 use Prim.Native.Nat.{ℕ, zero, suc, _+_, _*_, _%_, _^_, _≤_, _<_}
 use native.Mathlib.Omega.{arith}
+use native.Mathlib.Decide.{decLt}
 use lib.Dec.{eqb, ltb}
 use borrow.Author.Tests.{ltb-true, ltb-false, lt-ltb, ne-eqb}
 use Rattle.basics.specs.Choice.{if_then_else_, _if_else_, same-test, between-true}
@@ -20,10 +21,10 @@ use Rattle.state.specs.Facts.{In, Facts}
 use Rattle.state.specs.Keeping.{end-keeps}
 use Rattle.state.specs.Modes.{either-mode}
 use Rattle.state.specs.WellFormedFacts.{facts-well-formed, held-rank}
-use Rattle.weights.specs.Weights.{moreUrgent, ceilingOf, writeCeiling, absoluteCeiling, weight}
+use Rattle.weights.specs.Weights.{moreUrgent, ceilingOf, writeCeiling, absoluteCeiling, weight, oldWeight}
 use Rattle.weights.specs.WeightLaws.{ceiling-none, ceiling-least, ceiling-in, write-any}
-use Rattle.weights.specs.Keys.{noKey, keyWeight, keyHolder, keyObject, lowestKey}
-use Rattle.weights.specs.KeyLaws.{KeyOfOther, key-at, same-lowest-key}
+use Rattle.weights.specs.Keys.{noKey, keyWeight, keyHolder, keyObject, Weigh, lowestKeyBy, lowestKey, oldLowestKey}
+use Rattle.weights.specs.KeyLaws.{KeyOfOther, key-at, key-above, stops-same, same-lowest-key}
 use Rattle.rule.specs.Granting.{passesBelow, passes, namedKeyOf, namedKey, reason, wakes, wakeable}
 use Rattle.inheritance.specs.Running as R
 use Rattle.inheritance.specs.Running.{inheritedFrom, isReady, runningRank}
@@ -39,7 +40,7 @@ use Rattle.questions.specs.declared.CeilingsAnswer.{CeilingsAnswer}
 use Rattle.basics.specs.Replies.{value}
 use Rattle.questions.specs.Answers.{ceilingsReply}
 use Rattle.questions.specs.Questions.{askInheritedRank, askNamedLock, askCeilings, askRunning}
-use Rattle.promises.specs.Terms.{CeilingIs}
+use Rattle.promises.specs.Terms.{oldRequest, CeilingIs}
 use Rattle.promises.specs.NobodyAs65 as B
 
 -- ---- from the facts of a well-formed state
@@ -68,11 +69,11 @@ module _ (s : State) (F : Facts s) where
 
   -- ---- a request
 
-  -- who holds the lock that stops a request is a rank of the table
-  stops-in-table : (j : ℕ) → j ≤ s .counts .jobs → passes s j ≡ false → keyHolder (lowestKey s j) ≤ s .counts .jobs
-  stops-in-table j high e = go (lowestKey s j) (ltb-false j (keyWeight (lowestKey s j)) e) (key-at (weight s) s j)
+  -- who holds the lock that stops a request, by any rule of weighing, is a rank of the table
+  stops-in-table : (weigh : Weigh) (j : ℕ) → j ≤ s .counts .jobs → passesBelow j (lowestKeyBy weigh s j) ≡ false → keyHolder (lowestKeyBy weigh s j) ≤ s .counts .jobs
+  stops-in-table weigh j high e = go (lowestKeyBy weigh s j) (ltb-false j (keyWeight (lowestKeyBy weigh s j)) e) (key-at weigh s j)
     where
-      go : (k : ℕ) → keyWeight k ≤ j → (k ≡ noKey) ⊎ KeyOfOther (weight s) s j k → keyHolder k ≤ s .counts .jobs
+      go : (k : ℕ) → keyWeight k ≤ j → (k ≡ noKey) ⊎ KeyOfOther weigh s j k → keyHolder k ≤ s .counts .jobs
       go k low (inl z) = absurd (omega (arith, F .counts .jobs))
       go k low (inr w) =
           let lock = w .lock in
@@ -91,19 +92,49 @@ module _ (s : State) (F : Facts s) where
       ap (λ (b : Bool). 1 if eqb p o && (eqb m write || member (holders s write p) h) else 3 if not (member (holders s write p) h) && b else 2)
       (cap-same h p high)
 
-  request-same : (m r o : ℕ) → r ≤ s .counts .jobs → request s m r o ≡ B.requestMeeting65 s m r o (B.lowestKey65 s r)
+  -- a request that meets a lowest key
+  meeting-same : (m r o k : ℕ) → (passesBelow r k ≡ false → keyHolder k ≤ s .counts .jobs) → requestMeeting s m r o k ≡ B.requestMeeting65 s m r o k
   unfolding requestMeeting
-  request-same m r o high = meets (passes s r) refl ∙ ap (B.requestMeeting65 s m r o) (key-same r)
+  meeting-same m r o k in-table = go (passesBelow r k) refl
     where
-      k : ℕ
-      k = lowestKey s r
-
-      meets : (b : Bool) → passes s r ≡ b
+      go : (b : Bool) → passesBelow r k ≡ b
           → (if b then outcome Granted (grant s m r o) else outcome (Waits (keyHolder k) (keyObject k) (reason s m o (keyHolder k) (keyObject k))) (await s m r o))
           ≡ (if b then outcome Granted (grant s m r o) else outcome (Waits (keyHolder k) (keyObject k) (B.reason65 s m o (keyHolder k) (keyObject k))) (await s m r o))
-      meets true e = refl
-      meets false e =
-          ap (λ (n : ℕ). outcome (Waits (keyHolder k) (keyObject k) n) (await s m r o)) (reason-same m o (keyHolder k) (keyObject k) (stops-in-table r high e))
+      go true e = refl
+      go false e =
+          ap (λ (n : ℕ). outcome (Waits (keyHolder k) (keyObject k) n) (await s m r o)) (reason-same m o (keyHolder k) (keyObject k) (in-table e))
+
+  request-same : (m r o : ℕ) → r ≤ s .counts .jobs → request s m r o ≡ B.requestMeeting65 s m r o (B.lowestKey65 s r)
+  request-same m r o high =
+      meeting-same m r o (lowestKey s r) (stops-in-table (weight s) r high) ∙ ap (B.requestMeeting65 s m r o) (key-same r)
+
+  -- ---- a request by the old rule
+
+  -- a lock weighs the same, or nobody by both
+  old-above : (m r o : ℕ) → oldWeight s m r o ≤ B.oldWeight65 s m r o
+  unfolding oldWeight B.oldWeight65
+  old-above m r o =
+      either-mode (λ f. f (writeCeiling s o) (absoluteCeiling s o) ≤ f (B.writeCeiling65 s o) (B.absoluteCeiling65 s o)) (omega arith) (omega arith) m
+
+  old-same : (m r o : ℕ) → oldWeight s m r o ≤ s .counts .jobs → oldWeight s m r o ≡ B.oldWeight65 s m r o
+  unfolding oldWeight B.oldWeight65
+  old-same m r o =
+      either-mode (λ f. f (writeCeiling s o) (absoluteCeiling s o) ≤ s .counts .jobs
+      → f (writeCeiling s o) (absoluteCeiling s o) ≡ f (B.writeCeiling65 s o) (B.absoluteCeiling65 s o))
+      (λ h. omega arith) (λ h. omega arith) m
+
+  -- it passes by both, or meets the same lock
+  pub old-request-same : (m r o : ℕ) → r ≤ s .counts .jobs → oldRequest s m r o ≡ B.oldRequest65 s m r o
+  unfolding requestMeeting
+  old-request-same m r o high = elim (decLt r (keyWeight (oldLowestKey s r))) [
+    | yes l ↦
+        (let below = key-above (oldWeight s) (B.oldWeight65 s) s r (λ n q p k. old-above n q p) in
+        simp (lt-ltb r (keyWeight (oldLowestKey s r)) l, lt-ltb r (keyWeight (B.oldLowestKey65 s r)) (omega arith)))
+    | no n ↦
+        meeting-same m r o (oldLowestKey s r) (stops-in-table (oldWeight s) r high)
+        ∙ ap (B.requestMeeting65 s m r o) (sym (stops-same (oldWeight s) (B.oldWeight65 s) s r (omega (arith, F .counts .jobs)) (F .counts .objects .1)
+        (λ n q p k. old-above n q p) (λ n q p k light. old-same n q p (omega arith)) (omega arith)))
+  ]
 
   -- ---- inherited ranks and the running job
 

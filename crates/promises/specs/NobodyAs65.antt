@@ -36,10 +36,16 @@ absoluteCeiling65 s o = ceiling65 (declaredAny s o)
 unfoldable pub weight65 : State → ℕ → ℕ → ℕ → ℕ
 weight65 s m r o = ofMode m (moreUrgent (writeCeiling65 s o) r) (absoluteCeiling65 s o)
 
+unfoldable pub oldWeight65 : State → ℕ → ℕ → ℕ → ℕ
+oldWeight65 s m r o = ofMode m (writeCeiling65 s o) (absoluteCeiling65 s o)
+
 -- ---- who is granted a lock, whom a waiting job names and why, who is woken
 
 abbrev pub lowestKey65 : State → ℕ → ℕ
 lowestKey65 s j = lowestKeyBy (weight65 s) s j
+
+abbrev pub oldLowestKey65 : State → ℕ → ℕ
+oldLowestKey65 s j = lowestKeyBy (oldWeight65 s) s j
 
 abbrev pub passes65 : State → ℕ → Bool
 passes65 s j = passesBelow j (lowestKey65 s j)
@@ -62,6 +68,10 @@ abbrev pub requestMeeting65 : State → ℕ → ℕ → ℕ → ℕ → Outcome
 requestMeeting65 s m r o k =
     if passesBelow r k then outcome Granted (grant s m r o) else
     outcome (Waits (keyHolder k) (keyObject k) (reason65 s m o (keyHolder k) (keyObject k))) (await s m r o)
+
+-- by the old rule
+abbrev pub oldRequest65 : State → ℕ → ℕ → ℕ → Outcome
+oldRequest65 s m r o = requestMeeting65 s m r o (oldLowestKey65 s r)
 
 abbrev pub wake65 : State → Outcome
 wake65 s = outcome (Done (wakeable65 s)) (woken s (wakeable65 s))

@@ -19,7 +19,7 @@ use Rattle.state.specs.WellFormedFacts.{facts-well-formed, held-rank}
 use Rattle.weights.specs.Weights.{writeCeiling, absoluteCeiling, moreUrgent, weight, oldWeight}
 use Rattle.weights.specs.WeightLaws.{weight-small}
 use Rattle.weights.specs.Keys.{noWeight, noKey, keyWeight, keyHolder, lowestKey, oldLowestKey}
-use Rattle.weights.specs.KeyLaws.{OthersLock, KeyOfOther, key-below, key-top, key-at, le-key}
+use Rattle.weights.specs.KeyLaws.{OthersLock, key-above, stops-same}
 use Rattle.rule.specs.Granting.{passes, oldPasses, namedKey}
 use Rattle.inheritance.specs.Running as R
 use Rattle.inheritance.specs.Running.{inheritedFrom, readyKey, runningRank}
@@ -57,24 +57,13 @@ module _ (s : State) where
       (λ h. omega arith) (λ h. refl) m
 
   old-key-above : (j : ℕ) → lowestKey s j ≤ oldLowestKey s j
-  old-key-above j =
-      le-key (oldWeight s) s j (lowestKey s j) (key-top (weight s) s j)
-      (λ m r o l. omega (arith, key-below (weight s) s j m r o l, old-above m r o))
+  old-key-above j = key-above (weight s) (oldWeight s) s j (λ m r o l. old-above m r o)
 
   -- what is stopped by less urgent jobs alone is stopped by the same lock
   old-key-same : (j : ℕ) → j ≤ mostJobs → s .counts .objects ≤ mostObjects → ((m r o : ℕ) → OthersLock s j m r o → weight s m r o ≤ j → j < r)
       → keyWeight (lowestKey s j) ≤ j → oldLowestKey s j ≡ lowestKey s j
-  old-key-same j small objects less stopped = go (key-at (weight s) s j)
-    where
-      go : (lowestKey s j ≡ noKey) ⊎ KeyOfOther (weight s) s j (lowestKey s j) → oldLowestKey s j ≡ lowestKey s j
-      go (inl e) = absurd (omega arith)
-      go (inr w) =
-          let m = w .mode in
-          let r = w .holder in
-          let o = w .object in
-          let light : weight s m r o ≤ j = omega (arith, w .is, w .lock .rank, w .lock .object) in
-          let same = old-same j m r o (less m r o (w .lock) light) light in
-          omega (arith, key-below (oldWeight s) s j m r o (w .lock), old-key-above j, w .is)
+  old-key-same j small objects less =
+      stops-same (weight s) (oldWeight s) s j small objects (λ m r o l. old-above m r o) (λ m r o l light. sym (old-same j m r o (less m r o l light) light))
 
 -- ---- the job that the only processor runs
 

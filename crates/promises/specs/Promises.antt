@@ -5,7 +5,7 @@ use mathlib.Core.Path.{_≡_, ap}
 use mathlib.Core.Logic.{_≢_, _↔_}
 use mathlib.Core.Bool.{true, false}
 use mathlib.Core.List.{List, [], _∷_}
-use Prim.Native.Nat.{ℕ, zero, suc}
+use Prim.Native.Nat.{ℕ, zero, suc, _≤_}
 use lib.ListN.{getD}
 use Rattle.basics.specs.Choice.{between}
 use Rattle.ranks.specs.RankLaws.{first-empty}
@@ -38,8 +38,8 @@ use Rattle.promises.specs.ReachedStates.{kept, fresh-facts, fresh-view, 
 use Rattle.promises.specs.Waking.{blocked-not-woken, nobody-left}
 use Rattle.promises.specs.Requests.{granted-exactly, waits-for}
 use Rattle.promises.specs.OldRule.{one-request}
-use Rattle.promises.specs.NobodyAs65.{ceiling65, step65, askInheritedRank65, askNamedLock65, askCeilings65, askRunning65}
-use Rattle.promises.specs.Nobody.{step-same, ask-inherited-same, ask-named-same, ask-running-same, ask-ceilings-are, ask-ceilings-64}
+use Rattle.promises.specs.NobodyAs65.{ceiling65, oldRequest65, step65, askInheritedRank65, askNamedLock65, askCeilings65, askRunning65}
+use Rattle.promises.specs.Nobody.{old-request-same, step-same, ask-inherited-same, ask-named-same, ask-running-same, ask-ceilings-are, ask-ceilings-64}
 
 -- ---- DEMAND 3
 -- "It is a single claim about the whole list of events and not one for each event. The list starts from a fresh state .. An event in it is
@@ -146,6 +146,10 @@ module _ (s : State) (sized : Sized s) (well : wellFormed s ≡ true) where
 
   pub nobody-running : (p : ℕ) → askRunning s p ≡ askRunning65 s p
   nobody-running = ask-running-same s (facts s sized well)
+
+  -- So does, by the old rule, a request of a job of the table: the old rule is the one that it was, too.
+  pub nobody-old : (m r o : ℕ) → r ≤ s .counts .jobs → oldRequest s m r o ≡ oldRequest65 s m r o
+  nobody-old = old-request-same s (facts s sized well)
 
 -- "A table of 64 jobs still gives 65.": its ceilings are those of the rule with 65.
 pub sixty-four-jobs : (s : State) → s .counts .jobs ≡ mostJobs → (o : ℕ) → askCeilings s o ≡ askCeilings65 s o

@@ -15,7 +15,7 @@ use Rattle.basics.specs.Loops.{least, least-top, least-le, least-at}
 use Rattle.state.specs.declared.State.{State}
 use Rattle.state.specs.State.{mostJobs, mostObjects, read, write, holds}
 use Rattle.state.specs.Modes.{Mode}
-use Rattle.weights.specs.Keys.{lockKey, noKey, keyHolder, keyObject, Weigh, othersKey, objectKey, lowestKeyBy}
+use Rattle.weights.specs.Keys.{lockKey, noKey, keyWeight, keyHolder, keyObject, Weigh, othersKey, objectKey, lowestKeyBy}
 
 -- r, another job than j, holds a lock on o in mode m
 pub record OthersLock (s : State) (j m r o : ℕ) : Type 0 where
@@ -140,9 +140,30 @@ module _ (weigh : Weigh) (s : State) (j : ℕ) where
           let object-is : keyObject k ≡ w .object = omega (arith, w .is) in
           ((omega arith, omega arith), (omega arith, omega arith))
 
+-- ---- two rules of weighing
+
+module _ (v w : Weigh) (s : State) (j : ℕ) where
+  -- where each lock of another weighs less by the second, so does the lowest key
+  pub key-above : ((m r o : ℕ) → OthersLock s j m r o → v m r o ≤ w m r o) → lowestKeyBy v s j ≤ lowestKeyBy w s j
+  key-above le =
+      le-key w s j (lowestKeyBy v s j) (key-top v s j) (λ m r o l. omega (arith, key-below v s j m r o l, le m r o l))
+
+  -- and where those that stop j weigh the same, the same lock stops it
+  pub stops-same : j ≤ mostJobs → s .counts .objects ≤ mostObjects → ((m r o : ℕ) → OthersLock s j m r o → v m r o ≤ w m r o)
+      → ((m r o : ℕ) → OthersLock s j m r o → v m r o ≤ j → v m r o ≡ w m r o) → keyWeight (lowestKeyBy v s j) ≤ j → lowestKeyBy w s j ≡ lowestKeyBy v s j
+  stops-same small few le same stopped = go (key-at v s j)
+    where
+      go : (lowestKeyBy v s j ≡ noKey) ⊎ KeyOfOther v s j (lowestKeyBy v s j) → lowestKeyBy w s j ≡ lowestKeyBy v s j
+      go (inl e) = absurd (omega arith)
+      go (inr x) =
+          let m = x .mode in
+          let r = x .holder in
+          let o = x .object in
+          let light : v m r o ≤ j = omega (arith, x .is, x .lock .rank, x .lock .object) in
+          let equal = same m r o (x .lock) light in
+          omega (arith, key-below w s j m r o (x .lock), key-above le, x .is)
+
 -- two rules that weigh each lock of another the same give the same lowest key
 pub same-lowest-key : (v w : Weigh) (s : State) (j : ℕ) → ((m r o : ℕ) → OthersLock s j m r o → v m r o ≡ w m r o) → lowestKeyBy v s j ≡ lowestKeyBy w s j
 same-lowest-key v w s j same =
-    le-antisymm
-    (le-key w s j (lowestKeyBy v s j) (key-top v s j) (λ m r o l. omega (arith, same m r o l, key-below v s j m r o l)))
-    (le-key v s j (lowestKeyBy w s j) (key-top w s j) (λ m r o l. omega (arith, same m r o l, key-below w s j m r o l)))
+    le-antisymm (key-above v w s j (λ m r o l. omega (arith, same m r o l))) (key-above w v s j (λ m r o l. omega (arith, same m r o l)))
