@@ -1,40 +1,18 @@
--- What the program that writes the record keeps between two parts of its input, and what a read gives. What `read` and `write` moved no
--- contract can say; what stands in memory, before and after them, is said here.
+-- What the program that writes the record keeps between two parts of its input. What `read` and `write` moved no contract can say; what
+-- stands in memory, before and after them, is said here.
 -- Assumes nothing.
 use Prim.Native.Nat.{ℕ, zero, suc, _+_, _*_, _-_, _^_, _≤_, _<_}
 use mathlib.Core.Path.{_≡_}
 use mathlib.Core.Logic.{_⊎_}
 use mathlib.Core.List.{List, [], _∷_, _++_}
-use lib.IntN.{ℤ, pos, negsuc}
 use lib.ListN.{length, take, drop}
 use lib.Seq.{sets}
 use Rattle.decimals.specs.Laid.{Laid}
 use Rattle.stream.specs.declared.Bench.{Bench}
 use Rattle.stream.specs.Parts.{Advance, feed, Progress, begun, fed, fedAll, joinedParts}
-use Rattle.recorder.specs.declared.Part.{Part}
 use Rattle.recorder.specs.declared.Ended.{Ended}
 use Rattle.recorder.specs.declared.Recorded.{Recorded}
 use Rattle.recorder.specs.declared.Fed.{Fed}
-
--- what `read` gave, by its answer and by how many bytes came: a negative answer is a failure, and no byte is the input's end
-abbrev pub partOf : ℤ → ℕ → Part
-partOf (negsuc k) count = Part.Failed
-partOf (pos k) zero = Part.End
-partOf (pos k) (suc n) = Part.Bytes (suc n)
-
--- a part that came has a byte or more, and no more than there was room for
-abbrev pub Fits : Part → ℕ → Type 0
-Fits Part.Failed room = Unit {0}
-Fits Part.End room = Unit {0}
-Fits (Part.Bytes n) room = (1 ≤ n) × (n ≤ room)
-
--- a part read behind the bytes that are held, which stay
-pub record Came (p : Part) (held : ℕ) (before after : List ℕ) : Type 0 where
-  pub room : ℕ
-  pub fits : Fits p room
-  pub inside : held + room ≤ length before
-  pub size : length after ≡ length before
-  pub kept : take held after ≡ take held before
 
 -- a part that was fed: its lines stand at the front of their buffer, and the bytes that were not used at the front of the input's; both
 -- buffers are otherwise as they were

@@ -6,7 +6,6 @@ use mathlib.Core.Path.{_≡_, refl, sym, ap, ap₂, subst, _∙_}
 use mathlib.Core.List.{List, [], _∷_, _++_}
 use native.Mathlib.Nat.{add-zero, zero-add}
 use native.Mathlib.Omega.{arith}
-use lib.IntN.{ℤ, pos, negsuc}
 use lib.ListN.{length, take, drop, length-append, length-drop, take-append-drop}
 use lib.Seq.{sets, take-take, length-take-le}
 use Rattle.table_bytes.specs.Decided.{longestTable}
@@ -17,12 +16,7 @@ use Rattle.stream.specs.AnyParts.{settled-short, feed-count, feed-settled}
 use Rattle.recorder.specs.declared.Fed.{Fed}
 use Rattle.recorder.specs.declared.Ended.{Ended}
 use Rattle.recorder.specs.declared.Recorded.{Recorded}
-use Rattle.recorder.specs.Recording.{partOf, Fits, Feeds, overlaid, AfterParts, MayEnd, Records}
-
-pub part-fits : (got : ℤ) (count room : ℕ) → count ≤ room → Fits (partOf got count) room
-part-fits (negsuc k) count room h = tt
-part-fits (pos k) zero room h = tt
-part-fits (pos k) (suc n) room h = (omega arith, h)
+use Rattle.recorder.specs.Recording.{Feeds, overlaid, AfterParts, MayEnd, Records}
 
 pub after-none : (r : Bench) (lines : List ℕ) → r ≡ unread → AfterParts r [] 0 lines lines
 unfolding fedAll joinedParts overlaid

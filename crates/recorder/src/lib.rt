@@ -1,11 +1,13 @@
 // Writes the bench record of what comes on one file descriptor to another, part by part, as it comes.
 ghost use mathlib.Core.Path.{_≡_};
-ghost use Prim.Native.Nat.{_+_, _*_, _-_, _^_, _≤_, _<_, min, max};
+ghost use Prim.Native.Nat.{_+_, _*_, _-_, _^_, _≤_, _<_};
 ghost use lib.ListN.{length, take, drop};
 ghost use Rattle.table_bytes.specs.Decided.{longestTable};
 ghost use Rattle.decimals.specs.Laid.{Laid};
 ghost use Rattle.stream.specs.Parts.{feed, Advances};
-ghost use Rattle.recorder.specs.Recording.{partOf, Came, Feeds, AfterSomeParts, failureOf, MayEndWithoutPart, Records};
+ghost use Rattle.recorder.specs.Recording.{Feeds, AfterSomeParts, failureOf, MayEndWithoutPart, Records};
+use descriptors::Part;
+use descriptors::read_part;
 use libc::STDERR_FILENO;
 use libc::STDIN_FILENO;
 use libc::STDOUT_FILENO;
@@ -34,56 +36,11 @@ pub struct Recorded {
     pub held: usize,
 }
 
-// What a read gave: it failed, the input has ended, or so many bytes came.
-enum Part {
-    Failed,
-    End,
-    Bytes(usize),
-}
-
 // What a part did: the bench behind it, how many bytes are held for the next, and the length of the lines that were laid.
 struct Fed {
     bench: Bench,
     held: usize,
     laid: usize,
-}
-
-// What `read` gave, by its answer and by how many bytes came.
-fn part_of(got: isize, count: usize) -> Part
-    ensures { λ r. ⌜ r ≡ partOf got count ⌝ }
-{
-    if got < 0 {
-        return Part::Failed;
-    }
-    if count == 0 {
-        return Part::End;
-    }
-    Part::Bytes(count)
-}
-
-// Where the next part ends in a buffer of so many bytes: at most so many behind those that are held, and at least one.
-fn part_end(held: usize, most: usize, size: usize) -> usize
-    requires { ⌜ held < size ⌝ }
-    ensures { λ r. ⌜ r ≡ min size (held + max 1 most) ⌝ }
-{
-    if most == 0 {
-        return held + 1;
-    }
-    if most < size - held {
-        return held + most;
-    }
-    size
-}
-
-// Reads what there is, at most so many bytes, behind those that are held.
-fn read_part(from: i32, most: usize, input: &mut [u8], held: usize) -> Part
-    requires { ⌜ held < length (now input) ⌝ }
-    ensures { λ r. ⌜ Came r held (now (input .entry)) (now (input .exit)) ⌝ }
-{
-    let end = part_end(held, most, input.len());
-    let got = libc::read(from, &mut input[held..end]);
-    let count = io::count(got, &input[held..end]);
-    part_of(got, count)
 }
 
 // All that the bytes decide, laid in two steps: one for the table, one for the events behind it.

@@ -11,8 +11,9 @@ use lib.Seq.{length-take-le}
 use Rattle.table_bytes.specs.Decided.{longestTable}
 use Rattle.decimals.specs.Laid.{laid-length}
 use Rattle.stream.specs.declared.Bench.{Bench}
-use Rattle.recorder.specs.declared.Part.{Part}
-use Rattle.recorder.specs.Recording.{Fits, AfterParts, mostBytes}
+use Rattle.descriptors.specs.declared.Part.{Part}
+use Rattle.descriptors.specs.Reading.{Fits}
+use Rattle.recorder.specs.Recording.{AfterParts, mostBytes}
 use Rattle.recorder.specs.RecordingLaws.{after-none, after-same, after-fed, fed-short, fed-count, held-within, records-is}
 use borrow.Author.Needs.{needs}
 use Rattle.recorder.proofs.run.Statement.{statement}

@@ -1,4 +1,4 @@
--- `recorder::part_of` meets its contract: a negative answer is a failure, and otherwise no byte is the end.
+-- `descriptors::part_of` meets its contract: a negative answer is a failure, and otherwise no byte is the end.
 -- Assumes nothing.
 use Prim.Native.Nat.{ℕ, zero, suc}
 use mathlib.Core.Path.{_≡_, refl, ap, subst, _∙_}
@@ -11,10 +11,10 @@ use borrow.Author.Tests.{ltb-true}
 use mir.Syntax.{w64}
 use mir.Val.{toZ, ofZ}
 use mir.Facts.{toZ-ofZ}
-use Rattle.recorder.specs.declared.Part.{Part}
-use Rattle.recorder.specs.Recording.{partOf}
-use Rattle.recorder.proofs.part_of.Statement.{statement}
-use Rattle.recorder.proofs.part_of.Tie as tie
+use Rattle.descriptors.specs.declared.Part.{Part}
+use Rattle.descriptors.specs.Reading.{partOf}
+use Rattle.descriptors.proofs.part_of.Statement.{statement}
+use Rattle.descriptors.proofs.part_of.Tie as tie
 
 -- the test `got < 0`
 below : (z : ℤ) (count : ℕ) → ltZ z (pos 0) ≡ true → Part.Failed ≡ partOf z count

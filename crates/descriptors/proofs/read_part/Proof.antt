@@ -1,4 +1,4 @@
--- `recorder::read_part` meets its contract: it reads behind the bytes that are held, and leaves those as they were.
+-- `descriptors::read_part` meets its contract: it reads behind the bytes that are held, and leaves those as they were.
 -- Assumes nothing.
 use denote.Ref.{now}
 use mathlib.Core.Path.{sym, subst}
@@ -8,12 +8,12 @@ use lib.ListN.{take, drop, length-take}
 use lib.Seq.{take-at, length-take-le}
 use mir.Syntax.{w64}
 use mir.Val.{toZ, ofZ}
-use Rattle.recorder.specs.declared.Part.{Part}
-use Rattle.recorder.specs.Recording.{Fits}
-use Rattle.recorder.specs.RecordingLaws.{part-fits}
+use Rattle.descriptors.specs.declared.Part.{Part}
+use Rattle.descriptors.specs.Reading.{Fits}
+use Rattle.descriptors.specs.Reading.{part-fits}
 use borrow.Author.Needs.{needs}
-use Rattle.recorder.proofs.read_part.Statement.{statement}
-use Rattle.recorder.proofs.read_part.Tie as tie
+use Rattle.descriptors.proofs.read_part.Statement.{statement}
+use Rattle.descriptors.proofs.read_part.Tie as tie
 
 part-end-requires : tie.Need-part-end-requires
 part-end-requires c κs = search needs

@@ -1,0 +1,2 @@
+-- What a read gives.
+pub mod Reading
