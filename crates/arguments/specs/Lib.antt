@@ -1,0 +1,2 @@
+-- Numbers in decimal, read from a text.
+pub mod Numbers
