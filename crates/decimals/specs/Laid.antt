@@ -40,11 +40,14 @@ laid-is {a} {b} {i} {j} {m} {n} {xs} {ys} p e h =
 pub laid-length : {a b : List ℕ} {i j m : ℕ} {xs : List ℕ} → Laid a b i j m xs → length b ≡ length a
 laid-length {a} {b} {i} {j} {m} {xs} p = ap length (p .stored) ∙ length-sets a i xs
 
--- a text laid at the front of a buffer stands there
+-- a text laid from index 0 on is at the front of the buffer, and stands there
+pub laid-at-front : {a b : List ℕ} {j m : ℕ} {xs : List ℕ} → Laid a b 0 j m xs → length xs ≤ length a → b ≡ atFront xs a
+laid-at-front {a} {b} {j} {m} {xs} p h = p .stored ∙ sets-eq xs a 0 (omega arith) ∙ ap (λ (n : ℕ). xs ++ drop n a) (zero-add (length xs))
+
 pub laid-front : {a b : List ℕ} {j m : ℕ} {xs : List ℕ} → Laid a b 0 j m xs → length xs ≤ length a → take j b ≡ xs
 laid-front {a} {b} {j} {m} {xs} p h =
     let stops : j ≡ length xs = p .stops ∙ zero-add (length xs) in
-    ap (take j) (p .stored ∙ sets-eq xs a 0 (omega arith)) ∙ take-at xs (drop (0 + length xs) a) j (sym stops)
+    ap (take j) (laid-at-front p h) ∙ take-at xs (drop (length xs) a) j (sym stops)
 
 -- a text that fills the buffer is all there is
 pub laid-whole : {a b : List ℕ} {j m : ℕ} {xs : List ℕ} → Laid a b 0 j m xs → length xs ≡ length a → b ≡ xs

@@ -3,3 +3,4 @@ pub mod Refusals
 pub mod Parts
 pub mod AcceptedEvent
 pub mod Accepting
+pub mod EventBytes
