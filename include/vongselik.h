@@ -4,11 +4,11 @@
  * The caller keeps the state in a struct, sends events to it, and asks questions about it. A job is its rank: 1 is the most urgent. Ranks and
  * objects count from 1, processors from 0.
  *
- * Every call may be given any contents of the struct, any bytes and any numbers: it answers, or refuses by a number from 1 to 22 (below).
+ * Every call may be given any contents of the struct, any bytes and any numbers: it answers, or refuses by a number from 1 to 23 (below).
  * A call that refuses leaves every byte that was lent to it as it was; an event that is refused in a list of events leaves the state as it was, and has its
  * answer as the others have. No call allocates, blocks, ends the program or keeps anything between calls, so that two threads may work on two states.
- * Reading a table takes about 6 KB of stack and writing one about 14 KB, an event, a list of events, a question or the state page less than 1 KB.
- * Of the C library only memcpy and memset are needed.
+ * Reading a table takes about 6 KB of stack and writing one about 14 KB, an event, a list of events, a question, the state page or a test load less
+ * than 1 KB. Of the C library only memcpy and memset are needed.
  *
  * What the caller still owes: each pointer points to an object of its type (a buffer or a list: to at least as many bytes or elements as its length says,
  * at most PTRDIFF_MAX bytes), aligned as C aligns it; the objects lent to one call do not overlap; and no other thread writes them during the call.
@@ -107,7 +107,8 @@ enum {
     VONGSELIK_NO_SUCH_PROCESSOR = 19,
     VONGSELIK_BUFFER_TOO_SHORT = 20, /* for the table */
     VONGSELIK_UNLOCK_OF_WRITE_LOCK = 21,
-    VONGSELIK_BUFFER_TOO_SHORT_FOR_PAGE = 22
+    VONGSELIK_BUFFER_TOO_SHORT_FOR_PAGE = 22,
+    VONGSELIK_BUFFER_TOO_SHORT_FOR_EVENTS = 23 /* shorter than three times the count */
 };
 
 /* The answer to an event. What its case does not have is 0. */
@@ -171,6 +172,11 @@ uint8_t vongselik_parts_page(
     uint8_t processors, uint8_t jobs, uint8_t objects, const uint8_t *processor_of, const uint64_t *may_read, const uint64_t *may_write,
     uint64_t active, uint64_t unlocked, const uint64_t *readers, const uint64_t *writers, const uint16_t *request, uint8_t *buffer, size_t size,
     size_t *length);
+
+uint8_t vongselik_parts_make_events(
+    uint8_t processors, uint8_t jobs, uint8_t objects, const uint8_t *processor_of, const uint64_t *may_read, const uint64_t *may_write,
+    uint64_t active, uint64_t unlocked, const uint64_t *readers, const uint64_t *writers, const uint16_t *request, uint32_t *seed, size_t count,
+    uint8_t *buffer, size_t size);
 
 /* ---- Tables */
 
@@ -304,6 +310,24 @@ static inline uint8_t vongselik_page(const vongselik_state *state, uint8_t *buff
     return vongselik_parts_page(
         state->processors, state->jobs, state->objects, state->processor_of, state->may_read, state->may_write, state->active, state->unlocked,
         state->readers, state->writers, state->request, size ? buffer : &none, size, length);
+}
+
+/* ---- A test load */
+
+/* Lays count events, three bytes each (kind, rank, object), into the front of the buffer, sets *seed to the next seed, from which the next call goes on,
+ * and leaves the rest of the buffer untouched. Answers 0.
+ * Each event takes three steps of the seed. A step multiplies the seed by 1664525, adds 1013904223 and keeps the lowest 32 bits; the topmost 8 of them are
+ * the step's number. The kind is 1 plus the first number modulo 6, the rank 1 plus the second modulo the number of jobs, the object 1 plus the third modulo
+ * the number of objects. For start, finish and abandon the object is 0; the third step is taken all the same.
+ * The same numbers of jobs and objects, seed and count give the same events everywhere. A load made in parts, each behind the one before and from the seed
+ * that it left, has the same bytes as one made at once. With this table no event of it is refused by 9, 10 or 11; vongselik_events takes them as they are.
+ * Refusals: 8; 23 if the buffer is shorter than three times the count. The buffer and *seed are then as they were. The state is only read. */
+static inline uint8_t vongselik_make_events(const vongselik_state *state, uint32_t *seed, size_t count, uint8_t *buffer, size_t size)
+{
+    uint8_t none = 0;
+    return vongselik_parts_make_events(
+        state->processors, state->jobs, state->objects, state->processor_of, state->may_read, state->may_write, state->active, state->unlocked,
+        state->readers, state->writers, state->request, seed, count, size ? buffer : &none, size);
 }
 
 #ifdef __cplusplus

@@ -1,30 +1,18 @@
-/* Compares the library with the model (model.c) on random tables, events, states (inputs.c), questions and state pages, lists of events with single events
- * too, and state pages with the questions. Prints how many calls agreed and how many did not.
+/* Compares the library with the model (model.c) on random tables, events, states (inputs.c), questions, state pages and test loads (compare_loads.c), lists
+ * of events with single events too, and state pages with the questions. Prints how many calls agreed and how many did not.
  * Usage: compare [TABLES [EVENTS [SEED]]]: 1,000 tables, 120 events on each. Each event is one call; so is each table, part, state and question,
  * each list of events, once for every place where it is cut, each state page, once for every length of the buffer, each line of it beside the questions,
- * each ceiling beside nobody's, and each name of the header. */
+ * each ceiling beside nobody's, each test load, once for every length of the buffer and for every place where it is split, each event of it that is sent,
+ * and each name of the header. */
 #include <stdio.h>
 #include <stdlib.h>
 #include <string.h>
 
+#include "checks.h"
+#include "compare_loads.h"
 #include "inputs.h"
 #include "model.h"
 #include "vongselik.h"
-
-static unsigned long passed, failed;
-
-/* In a run of so many tables, each kind of page and of ceiling that is counted has to occur. */
-enum { ENOUGH = 200 };
-
-/* Counts one compared call; says what differs, the first few times. */
-static void check(int same, const char *what)
-{
-    if (same) {
-        passed++;
-    } else if (++failed <= 10) {
-        printf("differs: %s\n", what);
-    }
-}
 
 /* ---- The header's names */
 
@@ -39,12 +27,12 @@ static void compare_names(void)
         VONGSELIK_PROCESSOR_BYTE_TOO_LARGE, VONGSELIK_ENTRY_OUT_OF_RANGE, VONGSELIK_ENTRY_OUT_OF_ORDER, VONGSELIK_STATE_NOT_WELL_FORMED,
         VONGSELIK_UNKNOWN_KIND, VONGSELIK_RANK_OUT_OF_RANGE, VONGSELIK_OBJECT_OUT_OF_RANGE, VONGSELIK_ALREADY_ACTIVE, VONGSELIK_IDLE, VONGSELIK_WAITING,
         VONGSELIK_LOCK_AFTER_UNLOCK, VONGSELIK_NOT_DECLARED, VONGSELIK_ALREADY_HELD, VONGSELIK_NOT_HELD, VONGSELIK_NO_SUCH_PROCESSOR,
-        VONGSELIK_BUFFER_TOO_SHORT, VONGSELIK_UNLOCK_OF_WRITE_LOCK, VONGSELIK_BUFFER_TOO_SHORT_FOR_PAGE};
+        VONGSELIK_BUFFER_TOO_SHORT, VONGSELIK_UNLOCK_OF_WRITE_LOCK, VONGSELIK_BUFFER_TOO_SHORT_FOR_PAGE, VONGSELIK_BUFFER_TOO_SHORT_FOR_EVENTS};
     int i;
     for (i = 1; i <= 6; i++) check(kinds[i] == i, "a kind's number");
     for (i = 1; i <= 4; i++) check(answers[i] == i, "an answer's number");
     for (i = 1; i <= 3; i++) check(reasons[i] == i, "a reason's number");
-    for (i = 0; i <= 22; i++) check(refusals[i] == i, "a refusal's number");
+    for (i = 0; i <= 23; i++) check(refusals[i] == i, "a refusal's number");
     check(VONGSELIK_MOST_JOBS == 64 && VONGSELIK_MOST_OBJECTS == 128 && VONGSELIK_MOST_PROCESSORS == 8, "a limit");
     check(VONGSELIK_LONGEST_TABLE == 10 + 64 + 3 * 8192 && VONGSELIK_LONGEST_PAGE == 64 * 21, "a limit");
 }
@@ -416,6 +404,7 @@ static void compare_table(int events)
     fill_with_noise(&other);
     compare_handed_in(&other);
     compare_lists(&s);
+    compare_loads(&s);
 }
 
 int main(int argc, char **argv)
@@ -431,6 +420,6 @@ int main(int argc, char **argv)
     printf("%d tables, %lu events in their order\n", tables, (unsigned long)tables * (unsigned long)events);
     check_nobody_occurred(tables);
     check_pages_occurred(tables);
-    printf("%lu passed, %lu failed\n", passed, failed);
-    return failed ? 1 : 0;
+    check_loads_occurred(tables);
+    return print_checks() ? 0 : 1;
 }

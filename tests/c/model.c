@@ -1,4 +1,4 @@
-/* The rule of document 01, with CR 1, CR 2 and CR 4 of document 02, written a second time: see model.h. */
+/* The rule of document 01, with CR 1, CR 2, CR 4 and CR 5 of document 02, written a second time: see model.h. */
 #include "model.h"
 
 #include <stdio.h>
@@ -372,6 +372,34 @@ int model_page(const model *m, uint8_t *buffer, size_t size, size_t *length)
     if (size < end) return 22;
     memcpy(buffer, page, end);
     *length = end;
+    return 0;
+}
+
+/* ---- A test load */
+
+/* Takes a step from the number s. Answers the new s divided by 2^24, rounded down. */
+static int step(uint64_t *s)
+{
+    *s = (1664525 * *s + 1013904223) % 4294967296;
+    return (int)(*s / 16777216);
+}
+
+int model_make_events(const model *m, uint32_t *seed, size_t count, uint8_t *buffer, size_t size)
+{
+    uint64_t s = *seed;
+    size_t i;
+    if (!model_well_formed(m)) return 8;
+    if (size / 3 < count) return 23; /* size < 3 * count, where 3 * count may be too large for a size_t */
+    for (i = 0; i < count; i++) {
+        int kind = 1 + step(&s) % 6;
+        int rank = 1 + step(&s) % m->jobs;
+        int object = 1 + step(&s) % m->objects;
+        if (kind == 1 || kind == 5 || kind == 6) object = 0;
+        buffer[3 * i] = (uint8_t)kind;
+        buffer[3 * i + 1] = (uint8_t)rank;
+        buffer[3 * i + 2] = (uint8_t)object;
+    }
+    *seed = (uint32_t)s;
     return 0;
 }
 

@@ -1,5 +1,5 @@
-/* The rule of document 01, with CR 1, CR 2 and CR 4 of document 02, written a second time, as plainly as possible: sets are tables of flags, loops go
- * over every job and object. */
+/* The rule of document 01, with CR 1, CR 2, CR 4 and CR 5 of document 02, written a second time, as plainly as possible: sets are tables of flags, loops
+ * go over every job and object. */
 #ifndef MODEL_H
 #define MODEL_H
 
@@ -42,5 +42,8 @@ int model_write_table(const model *m, uint8_t *buffer, size_t size, size_t *leng
 
 /* The state page: the refusal's number, or 0, the page at the front of the buffer and its length. */
 int model_page(const model *m, uint8_t *buffer, size_t size, size_t *length);
+
+/* A test load: the refusal's number, or 0, the events at the front of the buffer and the next seed. */
+int model_make_events(const model *m, uint32_t *seed, size_t count, uint8_t *buffer, size_t size);
 
 #endif

@@ -18,7 +18,7 @@ static uint16_t ceilings[2];
 static size_t size, length;
 static event asked;
 static uint8_t listed[3 * LISTED];
-static uint32_t answers[LISTED];
+static uint32_t answers[LISTED], seed;
 
 static unsigned char *entered;
 
@@ -78,6 +78,12 @@ static void lay_page(void)
     number = vongselik_page(&state, buffer, size, &length);
 }
 
+/* As many events as the rank says. The seed goes on from call to call. */
+static void make_events(void)
+{
+    number = vongselik_make_events(&state, &seed, asked.rank, buffer, size);
+}
+
 /* ---- The calls, each with its stack */
 
 typedef struct {
@@ -86,7 +92,7 @@ typedef struct {
     unsigned char room[ROOM];
 } call;
 
-enum { ENTER, READ_TABLE, JOB_ENTRIES, WRITE_TABLE, EVENT, LIST, INHERITED_RANK, NAMED_LOCK, CEILINGS, RUNNING, PAGE, CALLS };
+enum { ENTER, READ_TABLE, JOB_ENTRIES, WRITE_TABLE, EVENT, LIST, INHERITED_RANK, NAMED_LOCK, CEILINGS, RUNNING, PAGE, MAKE_EVENTS, CALLS };
 
 static call calls[CALLS] = {
     {"", enter, {0}},
@@ -99,7 +105,8 @@ static call calls[CALLS] = {
     {"vongselik_named_lock", named_lock, {0}},
     {"vongselik_ceilings", ask_ceilings, {0}},
     {"vongselik_running", running, {0}},
-    {"vongselik_page", lay_page, {0}}};
+    {"vongselik_page", lay_page, {0}},
+    {"vongselik_make_events", make_events, {0}}};
 
 /* Runs the call on its stack. */
 static void run(int which)
@@ -138,7 +145,7 @@ static void run_tables(void)
     }
 }
 
-/* An event on the state, the questions, the page and the writer. */
+/* An event on the state, the questions, the page, a test load and the writer. */
 static void run_state(void)
 {
     asked = any_event(&state);
@@ -150,6 +157,7 @@ static void run_state(void)
     run(CEILINGS);
     run(RUNNING);
     run(PAGE);
+    run(MAKE_EVENTS);
     run(WRITE_TABLE);
 }
 

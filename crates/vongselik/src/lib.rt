@@ -1,4 +1,4 @@
-// The lock manager for C: events, questions, tables and the state page on the parts of a state of the caller's, each lent by itself.
+// The lock manager for C: events, questions, tables, the state page and test loads on the parts of a state of the caller's, each lent by itself.
 ghost use mathlib.Core.Path.{_≡_};
 ghost use Rattle.state.specs.State.{countsOf, stateOf};
 ghost use Rattle.events.specs.Answers.{paper};
@@ -8,6 +8,7 @@ ghost use Rattle.manager.specs.Step.{step};
 mod asking;
 mod entries;
 mod lists;
+mod loads;
 mod pages;
 mod tables;
 
