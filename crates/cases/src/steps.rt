@@ -1,4 +1,4 @@
-// The steps of a case: events, calls on the table, questions, the page, and changes that make a state that no events reach.
+// The steps of a case: events, calls on the table, questions, the page, test loads, and changes that make a state that no events reach.
 ghost use Prim.Native.Nat.{_≤_};
 use crate::print::say;
 use crate::print::say_answer;
@@ -97,6 +97,19 @@ fn show_page(state: State, lines: u8, less: u8) {
     write_page(state, &mut buffer[..room]);
 }
 
+// G: lends the generator a buffer of 12 sevens for so many events from the seed; writes its answer and the buffer after it.
+fn make_events(state: State, seed: u8, count: u8) {
+    let mut buffer = [7; 12];
+    let made = generator::make_events(state, seed as u32, count as usize, &mut buffer);
+    if made.refusal != 0 {
+        say_refused(made.refusal);
+        io::write_all(1, b",");
+    }
+    say(b" seed ", made.seed as u64);
+    io::write_all(1, b", buffer");
+    say_bytes(&buffer);
+}
+
 // A question: n for the lock that the job names, i for its inherited rank, p for the rank that the processor runs, c for the object's ceilings.
 fn ask(state: State, letter: u8, rank: u8, object: u8) {
     match letter {
@@ -165,6 +178,7 @@ fn run_step(bytes: &[u8], state: State, letter: u8, rank: u8, object: u8) -> Sta
         b'E' => read_entries(bytes, rank),
         b'L' => write_table(state),
         b'P' => show_page(state, rank, object),
+        b'G' => make_events(state, rank, object),
         b'h' => show_holders(state),
         b'n' | b'i' | b'p' | b'c' => ask(state, letter, rank, object),
         b'+' | b'r' | b'q' | b'v' => return change(state, letter, rank, object),
