@@ -1,6 +1,6 @@
-/* What a test load costs: prints its processor time as a ratio to that of a plain loop in C (plain_load.c). Usage: load_cost [ROUNDS], 15 rounds.
- * A call makes 20,000 events or 10: it tests the whole state, which the loop does not, and that counts for more the fewer the events. The loads of both
- * have to be the same. */
+/* What a test load costs: prints its processor time as a ratio to that of the same loop in plain C, written with a choice for the object and by arithmetic
+ * (plain_load.c). Usage: load_cost [ROUNDS], 15 rounds. A call makes 20,000 events or 10: it tests the whole state, which the loops do not, and that counts
+ * for more the fewer the events. The loads of all have to be the same. */
 #include <stdio.h>
 #include <stdlib.h>
 #include <string.h>
@@ -8,7 +8,7 @@
 #include "plain_load.h"
 #include "unlocks.h"
 
-enum { TABLES = 2, LENGTHS = 2, MOST_EVENTS = 20000, EVENTS = 400000 };
+enum { TABLES = 2, LENGTHS = 2, LOOPS = 2, MOST_EVENTS = 20000, EVENTS = 400000 };
 
 /* The jobs and objects of each table, and how many events a call makes. */
 static const int jobs[TABLES] = {64, 8}, objects[TABLES] = {128, 16};
@@ -21,8 +21,12 @@ typedef struct {
     double time;
 } made;
 
+typedef uint32_t loop(uint8_t jobs, uint8_t objects, uint32_t seed, size_t count, uint8_t *buffer);
+
+static loop *const loops[LOOPS] = {plain_make_events, plain_make_events_by_arithmetic};
+
 static vongselik_state states[TABLES];
-static double least_library[TABLES][LENGTHS], least_plain[TABLES][LENGTHS];
+static double least_library[TABLES][LENGTHS], least_plain[TABLES][LENGTHS][LOOPS];
 
 /* The fresh state of the table, on one processor: everybody reads everything. */
 static void declare(vongselik_state *s, int its_jobs, int its_objects)
@@ -46,12 +50,12 @@ static void run_library(made *m, const vongselik_state *s, size_t length)
     m->time = processor_time() - start;
 }
 
-/* The plain loop does the same. */
-static void run_plain(made *m, const vongselik_state *s, size_t length)
+/* A plain loop does the same. */
+static void run_plain(made *m, const vongselik_state *s, size_t length, loop *make)
 {
     double start = processor_time();
     size_t i;
-    for (i = 0; i < EVENTS / length; i++) m->seed = plain_make_events(s->jobs, s->objects, m->seed, length, m->load);
+    for (i = 0; i < EVENTS / length; i++) m->seed = make(s->jobs, s->objects, m->seed, length, m->load);
     m->time = processor_time() - start;
 }
 
@@ -63,19 +67,28 @@ static void check_same(const made *library, const made *plain)
     exit(1);
 }
 
-/* Times both on each table with each length, in turns, and keeps the least. */
+/* The least of the times so far. */
+static void keep_least(double *least, double time, int round)
+{
+    if (round == 0 || time < *least) *least = time;
+}
+
+/* Times all on each table with each length, in turns, and keeps the least. */
 static void time_round(int round)
 {
     static made library, plain;
-    int i, k;
+    int i, k, l;
     for (i = 0; i < TABLES; i++)
         for (k = 0; k < LENGTHS; k++) {
-            library.seed = plain.seed = (uint32_t)round;
+            library.seed = (uint32_t)round;
             run_library(&library, &states[i], lengths[k]);
-            run_plain(&plain, &states[i], lengths[k]);
-            check_same(&library, &plain);
-            if (round == 0 || library.time < least_library[i][k]) least_library[i][k] = library.time;
-            if (round == 0 || plain.time < least_plain[i][k]) least_plain[i][k] = plain.time;
+            keep_least(&least_library[i][k], library.time, round);
+            for (l = 0; l < LOOPS; l++) {
+                plain.seed = (uint32_t)round;
+                run_plain(&plain, &states[i], lengths[k], loops[l]);
+                check_same(&library, &plain);
+                keep_least(&least_plain[i][k][l], plain.time, round);
+            }
         }
 }
 
@@ -86,8 +99,9 @@ static void print_ratios(void)
         printf("%d events a call:\n", (int)lengths[k]);
         for (i = 0; i < TABLES; i++)
             printf(
-                "  %2d jobs, %3d objects: %5.2f (an event: library %.2f ns, plain loop %.2f ns)\n", jobs[i], objects[i],
-                least_library[i][k] / least_plain[i][k], least_library[i][k] / EVENTS * 1e9, least_plain[i][k] / EVENTS * 1e9);
+                "  %2d jobs, %3d objects: %5.2f, by arithmetic %5.2f (an event: library %.2f ns, loops %.2f and %.2f ns)\n", jobs[i], objects[i],
+                least_library[i][k] / least_plain[i][k][0], least_library[i][k] / least_plain[i][k][1], least_library[i][k] / EVENTS * 1e9,
+                least_plain[i][k][0] / EVENTS * 1e9, least_plain[i][k][1] / EVENTS * 1e9);
     }
 }
 

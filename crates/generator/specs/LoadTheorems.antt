@@ -4,7 +4,7 @@
 use Prim.Native.Nat.{ℕ, zero, suc, _+_, _*_, _-_, _%_, _≤_, _<_}
 use mathlib.Core.Path.{_≡_, refl, sym, subst, ap, ap₂, _∙_}
 use mathlib.Core.Logic.{_≢_}
-use mathlib.Core.Bool.{Bool, true, false, not, _||_}
+use mathlib.Core.Bool.{Bool, true, false, not}
 use mathlib.Core.List.{List, [], _∷_, _++_, append-assoc}
 use native.Mathlib.Nat.{mod-lt}
 use native.Mathlib.Omega.{arith}
@@ -61,13 +61,13 @@ module _ (s : State) (seed m n : ℕ) (buffer : List ℕ) where
       let all = made s seed (m + n) buffer w h in
       let second : List ℕ = load c n (seedAfter m seed) in (
         two .0
-        ∙ ap (λ (k : ℕ). record { refusal = 0; seed = k }) (ap (seedAfter n) left-is ∙ sym (seed-join m n seed))
-        ∙ sym (all .0),
+            ∙ ap (λ (k : ℕ). record { refusal = 0; seed = k }) (ap (seedAfter n) left-is ∙ sym (seed-join m n seed))
+            ∙ sym (all .0),
         ap (λ (l : List ℕ). take (3 * m) filled ++ l) (two .1)
-        ∙ ap₂ (λ (l : List ℕ) (k : ℕ). take (3 * m) l ++ atFront (load c n k) (drop (3 * m) l)) (one .1) left-is
-        ∙ front-more first second buffer (3 * m) (length second) long refl
-        ∙ ap (λ (l : List ℕ). atFront l buffer) (sym (load-join c m n seed))
-        ∙ sym (all .1),
+            ∙ ap₂ (λ (l : List ℕ) (k : ℕ). take (3 * m) l ++ atFront (load c n k) (drop (3 * m) l)) (one .1) left-is
+            ∙ front-more first second buffer (3 * m) (length second) long refl
+            ∙ ap (λ (l : List ℕ). atFront l buffer) (sym (load-join c m n seed))
+            ∙ sym (all .1),
       )
 
   pub made-in-two : 3 * (m + n) ≤ length buffer → InTwo
@@ -153,16 +153,19 @@ module _ (s : State) (seed count i : ℕ) (buffer : List ℕ) where
   unfolding eventFrom
   made-allowed e h =
       let at : (j : ℕ) → j < 3 → byteMade j ≡ getD event j 0 = made-event e h in
-      let known : Within (s .counts) = counts-within (s .counts) (clauses s (accepted e .0) .counts) in
-      (omega (arith, at 0 (omega arith)), omega (arith, at 0 (omega arith)), λ t same v low high is.
-        let first : ℕ = drawn (step (seedAfter i seed)) in
-        let second : ℕ = drawn (step (step (seedAfter i seed))) in
-        let third : ℕ = drawn (step (step (step (seedAfter i seed)))) in
-        passes t (subst Within (sym same) known) first second third v low high
-        (ap (λ (c : Counts). refusal t (kindFrom first) (rankFrom (c .jobs) second) (objectFrom (c .objects) (kindFrom first) third)) same
-        ∙ ap₂ (λ (k r : ℕ). refusal t k r (getD event 2 0)) (sym (at 0 (omega arith))) (sym (at 1 (omega arith)))
-        ∙ ap (refusal t (byteMade 0) (byteMade 1)) (sym (at 2 (omega arith)))
-        ∙ is))
+      let known : Within (s .counts) = counts-within (s .counts) (clauses s (accepted e .0) .counts) in (
+        omega (arith, at 0 (omega arith)),
+        omega (arith, at 0 (omega arith)),
+        λ t same v low high is.
+            let first : ℕ = drawn (step (seedAfter i seed)) in
+            let second : ℕ = drawn (step (step (seedAfter i seed))) in
+            let third : ℕ = drawn (step (step (step (seedAfter i seed)))) in
+            passes t (subst Within (sym same) known) first second third v low high
+            (ap (λ (c : Counts). refusal t (kindFrom first) (rankFrom (c .jobs) second) (objectFrom (c .objects) (kindFrom first) third)) same
+            ∙ ap₂ (λ (k r : ℕ). refusal t k r (getD event 2 0)) (sym (at 0 (omega arith))) (sym (at 1 (omega arith)))
+            ∙ ap (refusal t (byteMade 0) (byteMade 1)) (sym (at 2 (omega arith)))
+            ∙ is),
+      )
 
 -- ---- four events for 4 jobs and 3 objects from seed 7, and the seed left over
 

@@ -137,7 +137,11 @@ fn rank_from(jobs: u8, second: u8) -> u8
 fn objects_carried(kind: u8) -> u8
     ensures { λ r. ⌜ r ≡ oneIf (not (L.carriesNone kind)) ⌝ }
 {
-    if (kind == 1) | ((5 <= kind) & (kind <= 6)) { 0 } else { 1 }
+    if (kind == 1) | ((5 <= kind) & (kind <= 6)) {
+        0
+    } else {
+        1
+    }
 }
 
 // The object of an event of the kind, from the third number.

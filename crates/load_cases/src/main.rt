@@ -156,7 +156,10 @@ fn run_arguments(table: &mut TableBuffer, events: &mut EventBuffer) {
 
 // A load whose events go to a descriptor that is open for reading alone.
 fn run_unwritten(path: &[u8], table: &mut TableBuffer, events: &mut EventBuffer) {
-    io::write_all(STDOUT_FILENO, b"50000 events to where nothing can be written:\n");
+    io::write_all(
+        STDOUT_FILENO,
+        b"50000 events to where nothing can be written:\n",
+    );
     let to = os::open_read(path);
     write_load(b"7", b"50000", path, to, 32768, table, events);
     libc::close(to);

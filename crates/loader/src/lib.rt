@@ -197,13 +197,22 @@ fn report(errors: i32, ended: Ended) {
     match ended {
         Ended::Whole => {}
         Ended::NotTwo => {
-            io::write_all(errors, b"load: a seed and a count are wanted: load SEED COUNT < table\n");
+            io::write_all(
+                errors,
+                b"load: a seed and a count are wanted: load SEED COUNT < table\n",
+            );
         }
         Ended::BadSeed => {
-            io::write_all(errors, b"load: the seed is not a decimal number from 0 to 4294967295\n");
+            io::write_all(
+                errors,
+                b"load: the seed is not a decimal number from 0 to 4294967295\n",
+            );
         }
         Ended::BadCount => {
-            io::write_all(errors, b"load: the count is not a decimal number from 0 to 18446744073709551615\n");
+            io::write_all(
+                errors,
+                b"load: the count is not a decimal number from 0 to 18446744073709551615\n",
+            );
         }
         Ended::NotRead => {
             io::write_all(errors, b"load: the table cannot be read\n");

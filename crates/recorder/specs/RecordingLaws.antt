@@ -1,7 +1,7 @@
 -- What holds of the bench and the bytes held behind each part: they are as the parts leave them (`after-fed`), the bytes are fewer than a
 -- table has (`fed-short`), and the events and the bytes are no more than have come (`fed-count`).
 -- Assumes nothing.
-use Prim.Native.Nat.{ℕ, zero, suc, _+_, _≤_, _<_}
+use Prim.Native.Nat.{ℕ, _+_, _≤_, _<_}
 use mathlib.Core.Path.{_≡_, refl, sym, ap, ap₂, subst, _∙_}
 use mathlib.Core.List.{List, [], _∷_, _++_}
 use native.Mathlib.Nat.{add-zero, zero-add}

@@ -2,10 +2,9 @@
 -- one event more behind them. It ends because the events left fall. Assumes nothing.
 use mathlib.Core.Path.{_≡_, refl, sym, ap, _∙_}
 use mathlib.Core.List.{_++_}
-use Prim.Native.Nat.{ℕ, _+_, _*_, _-_, _≤_, _<_}
+use Prim.Native.Nat.{ℕ, _+_, _*_, _-_, _≤_}
 use native.Mathlib.Omega.{arith}
 use denote.Ref.{now}
-use lib.ListN.{length}
 use Rattle.decimals.specs.Laid.{Laid, atFront, laid-then, laid-is, laid-length, laid-at-front}
 use Rattle.generator.specs.Load.{step, eventFrom, seedAfter, load}
 use Rattle.generator.specs.LoadLaws.{load-length, seed-more, load-more}
@@ -58,7 +57,7 @@ returns c =
     let all : c .before .loop .made ≡ a .count = omega arith in (
       c .before .loop .inv .1 ∙ ap (λ (n : ℕ). seedAfter n (a .seed)) all,
       laid-at-front (c .before .loop .inv .2) (omega (arith, load-length (a .counts) (c .before .loop .made) (a .seed), (c .before .before .before .pre .1)))
-      ∙ ap (λ (n : ℕ). atFront (load (a .counts) n (a .seed)) (now (a .buf))) all,
+          ∙ ap (λ (n : ℕ). atFront (load (a .counts) n (a .seed)) (now (a .buf))) all,
     )
 
 pub lay-load-spec : {M : Type 1} → statement M

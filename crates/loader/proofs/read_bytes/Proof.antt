@@ -1,11 +1,11 @@
 -- `loader::read_bytes` meets its contract. The loop's invariant: the bytes held lie in the buffer, which keeps its length. Bytes that are cut are fewer than
 -- the longest table has, so there is room for more; it ends because the room falls. Assumes nothing.
-use Prim.Native.Nat.{ℕ, _+_, _-_, _≤_, _<_}
-use mathlib.Core.Path.{_≡_, refl, sym, ap, subst, _∙_}
+use Prim.Native.Nat.{_-_, _≤_}
+use mathlib.Core.Path.{_≡_, refl, sym, subst, _∙_}
 use native.Mathlib.Omega.{arith}
 use lib.ListN.{length, take}
 use lib.Seq.{length-take-le}
-use Rattle.table_bytes.specs.Decided.{longestTable, cut-short}
+use Rattle.table_bytes.specs.Decided.{cut-short}
 use Rattle.descriptors.specs.declared.Part.{Part}
 use Rattle.descriptors.specs.Reading.{Fits}
 use borrow.Author.Needs.{needs}

@@ -1,8 +1,7 @@
 -- `loader::write_parts` meets its contract. The loop's invariant: what was made, the seed and the buffer are as some parts leave them. A turn makes one part more,
 -- which the generator does not refuse. It ends because the events left fall. Assumes nothing.
-use Prim.Native.Nat.{ℕ, _+_, _*_, _-_, _≤_, _<_, min}
-use mathlib.Core.Path.{_≡_, refl, sym, ap, _∙_}
-use mathlib.Core.List.{List}
+use Prim.Native.Nat.{_*_, _-_, _≤_}
+use mathlib.Core.Path.{_≡_, refl, sym}
 use native.Mathlib.Omega.{arith}
 use denote.Ref.{now}
 use lib.ListN.{length}
