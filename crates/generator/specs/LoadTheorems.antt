@@ -27,7 +27,8 @@ use Rattle.generator.specs.LoadLaws.{load-length, seed-join, load-join, 
 
 -- ---- "For one table, making m and then, behind them, n events from the seed left over equals making m + n where the buffer holds all."
 
-module _ (s : State) (seed m n : ℕ) (buffer : List ℕ) where
+-- The first m are made in state s, those behind them in state t: two states of one table have the same counts, and are both well formed or both not.
+module _ (s t : State) (seed m n : ℕ) (buffer : List ℕ) (same : t .counts ≡ s .counts) (alike : wellFormed t ≡ wellFormed s) where
   -- the seed that the first m leave over, and the buffer behind them
   abbrev left : ℕ
   left = makeEvents s seed m buffer .seed
@@ -37,13 +38,13 @@ module _ (s : State) (seed m n : ℕ) (buffer : List ℕ) where
 
   abbrev InTwo : Type 0
   InTwo =
-      (makeEvents s left n (drop (3 * m) filled) ≡ makeEvents s seed (m + n) buffer)
-      × (take (3 * m) filled ++ eventsMade s left n (drop (3 * m) filled) ≡ eventsMade s seed (m + n) buffer)
+      (makeEvents t left n (drop (3 * m) filled) ≡ makeEvents s seed (m + n) buffer)
+      × (take (3 * m) filled ++ eventsMade t left n (drop (3 * m) filled) ≡ eventsMade s seed (m + n) buffer)
 
   refused-in-two : wellFormed s ≡ false → InTwo
   refused-in-two w =
       let one = refused-by-8 s seed m buffer w in
-      let two = refused-by-8 s left n (drop (3 * m) filled) w in
+      let two = refused-by-8 t left n (drop (3 * m) filled) (alike ∙ w) in
       let all = refused-by-8 s seed (m + n) buffer w in (
         two .0 ∙ ap (λ (a : Made). record { refusal = 8; seed = a .seed }) (one .0) ∙ sym (all .0),
         ap (λ (l : List ℕ). take (3 * m) filled ++ l) (two .1) ∙ take-append-drop (3 * m) filled ∙ one .1 ∙ sym (all .1),
@@ -57,13 +58,14 @@ module _ (s : State) (seed m n : ℕ) (buffer : List ℕ) where
       let left-is : left ≡ seedAfter m seed = ap (λ (a : Made). a .seed) (one .0) in
       let long : length first ≡ 3 * m = load-length c m seed in
       let room : length filled ≡ length buffer = ap length (one .1) ∙ front-length first buffer (omega arith) in
-      let two = made s left n (drop (3 * m) filled) w (omega (arith, length-drop (3 * m) filled)) in
+      let two = made t left n (drop (3 * m) filled) (alike ∙ w) (omega (arith, length-drop (3 * m) filled)) in
       let all = made s seed (m + n) buffer w h in
       let second : List ℕ = load c n (seedAfter m seed) in (
         two .0
             ∙ ap (λ (k : ℕ). record { refusal = 0; seed = k }) (ap (seedAfter n) left-is ∙ sym (seed-join m n seed))
             ∙ sym (all .0),
-        ap (λ (l : List ℕ). take (3 * m) filled ++ l) (two .1)
+        ap (λ (l : List ℕ). take (3 * m) filled ++ l)
+            (two .1 ∙ ap (λ (k : Counts). atFront (load k n left) (drop (3 * m) filled)) same)
             ∙ ap₂ (λ (l : List ℕ) (k : ℕ). take (3 * m) l ++ atFront (load c n k) (drop (3 * m) l)) (one .1) left-is
             ∙ front-more first second buffer (3 * m) (length second) long refl
             ∙ ap (λ (l : List ℕ). atFront l buffer) (sym (load-join c m n seed))
