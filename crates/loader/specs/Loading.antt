@@ -7,6 +7,7 @@ use mathlib.Core.Bool.{Bool, true, false}
 use mathlib.Core.List.{List, []}
 use lib.ListN.{length, take}
 use Rattle.state.specs.declared.Counts.{Counts}
+use Rattle.table_bytes.specs.Refusals.{tableRefusal}
 use Rattle.table.specs.declared.TableRead.{TableRead}
 use Rattle.table.specs.Reading.{readTable}
 use Rattle.decimals.specs.Laid.{atFront}
@@ -14,8 +15,17 @@ use Rattle.generator.specs.Load.{seedAfter, load}
 use Rattle.arguments.specs.declared.Number.{Number}
 use Rattle.arguments.specs.Numbers.{numberIn}
 use Rattle.loader.specs.declared.Ended.{Ended}
+use Rattle.loader.specs.declared.Input.{Input}
 use Rattle.loader.specs.declared.Loaded.{Loaded}
 use Rattle.loader.specs.declared.Parted.{Parted}
+
+-- ---- the table read
+
+-- the bytes that came, at the front of the buffer; where a read failed they do not decide yet whether there is a table
+pub record ReadBytes (r : Input) (bytes bytes′ : List ℕ) : Type 0 where
+  pub inside : r .held ≤ length bytes′
+  pub size : length bytes′ ≡ length bytes
+  pub cut : r .failed ≡ true → tableRefusal (take (r .held) bytes′) ≡ 1
 
 -- ---- the load in parts
 
@@ -58,14 +68,14 @@ abbrev pub NoneMade : Loaded → (seed : ℕ) (events events′ : List ℕ) → 
 NoneMade r seed events events′ = (r .made ≡ 0) × (r .seed ≡ seed) × (events′ ≡ events)
 
 -- what was made, by how it ended, where a seed and a count are wanted and `read` is what the bytes that came are as a table: nothing unless they
--- are accepted
+-- are accepted; and a read fails only as long as they are cut
 abbrev pub LoadsBy : Ended → (r : Loaded) (seed count : ℕ) (read : TableRead) (events events′ : List ℕ) → Type 0
 LoadsBy Ended.Whole r seed count read events events′ =
     (read .refusal ≡ 0) × (r .made ≡ count) × AfterParts (read .state .counts) seed count (r .made) (r .seed) events events′
 LoadsBy Ended.NotWritten r seed count read events events′ =
     (read .refusal ≡ 0) × AfterParts (read .state .counts) seed count (r .made) (r .seed) events events′
 LoadsBy (Ended.Refused n) r seed count read events events′ = (read .refusal ≡ n) × (n ≢ 0) × NoneMade r seed events events′
-LoadsBy Ended.NotRead r seed count read events events′ = NoneMade r seed events events′
+LoadsBy Ended.NotRead r seed count read events events′ = (read .refusal ≡ 1) × NoneMade r seed events events′
 LoadsBy Ended.NotTwo r seed count read events events′ = ⊥
 LoadsBy Ended.BadSeed r seed count read events events′ = ⊥
 LoadsBy Ended.BadCount r seed count read events events′ = ⊥

@@ -6,7 +6,7 @@ ghost use lib.ListN.{length};
 ghost use Rattle.state.specs.WellFormed.{wellFormed};
 ghost use Rattle.table_bytes.specs.Decided.{longestTable};
 ghost use Rattle.arguments.specs.Numbers.{numberIn};
-ghost use Rattle.loader.specs.Loading.{partEvents, mostSeed, mostCount, endOf, Parts, Loads, LoadsTexts, LoadsArguments};
+ghost use Rattle.loader.specs.Loading.{partEvents, mostSeed, mostCount, endOf, ReadBytes, Parts, Loads, LoadsTexts, LoadsArguments};
 use arguments::Number;
 use arguments::number_in;
 use basics::smaller;
@@ -68,7 +68,7 @@ fn is_failure(part: Part) -> bool {
 // Reads, at most so many bytes at a time, until the bytes decide whether there is a table at their front, or the input ends.
 fn read_bytes(from: i32, most: usize, bytes: &mut [u8]) -> Input
     requires { ⌜ longestTable ≤ length (now bytes) ⌝ }
-    ensures { λ r. ⌜ (r .held ≤ length (now (bytes .exit))) × (length (now (bytes .exit)) ≡ length (now (bytes .entry))) ⌝ }
+    ensures { λ r. ⌜ ReadBytes r (now (bytes .entry)) (now (bytes .exit)) ⌝ }
 {
     let mut held = 0;
     while table_refusal(&bytes[..held]) == 1 {

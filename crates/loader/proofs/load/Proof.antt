@@ -4,7 +4,7 @@ use mathlib.Core.Path.{refl, sym, ap, _∙_}
 use lib.Seq.{length-take-le}
 use Rattle.state.specs.WellFormed.{wellFormed}
 use Rattle.table.specs.declared.TableRead.{TableRead}
-use Rattle.table.specs.Fresh.{read-well-formed}
+use Rattle.table.specs.Fresh.{read-refusal, read-well-formed}
 use Rattle.loader.specs.EndLaws.{loads-none, loads-parts}
 use borrow.Author.Needs.{needs}
 use Rattle.loader.proofs.load.Statement.{statement}
@@ -20,13 +20,13 @@ same-length : tie.Need-same-length
 same-length c = search needs
 
 returns : tie.Need-returns
-returns c = loads-none _ _ _ _ _ (c .before .before .before .before .read-bytes .ensures .0) (c .none-made .ensures) (refl, refl, refl)
+returns c = loads-none _ _ _ _ _ (c .before .before .before .before .read-bytes .ensures .inside) (c .none-made .ensures) (read-refusal _ ∙ c .before .before .before .before .read-bytes .ensures .cut (c .before .if1 .taken), (refl, refl, refl))
 
 slice-reshare-prefix-read-table : tie.Need-slice-reshare-prefix-read-table
 slice-reshare-prefix-read-table c = search needs
 
 slice-aggregate-read-table : tie.Need-slice-aggregate-read-table
-slice-aggregate-read-table c = sym (length-take-le _ _ (c .before .before .before .before .read-bytes .ensures .0))
+slice-aggregate-read-table c = sym (length-take-le _ _ (c .before .before .before .before .read-bytes .ensures .inside))
 
 read-table-requires : tie.Need-read-table-requires
 read-table-requires c κs = search needs
@@ -40,7 +40,7 @@ same-length-2 c = search needs
 returns-2 : tie.Need-returns-2
 returns-2 c =
     let is = ap (λ (t : TableRead). t .refusal) (sym (c .before .before .before .read-table .ensures)) in
-    loads-none _ _ _ _ _ (c .before .before .before .before .before .before .before .before .read-bytes .ensures .0) (c .none-made2 .ensures) (is, c .before .if2 .taken, (refl, refl, refl))
+    loads-none _ _ _ _ _ (c .before .before .before .before .before .before .before .before .read-bytes .ensures .inside) (c .none-made2 .ensures) (is, c .before .if2 .taken, (refl, refl, refl))
 
 write-parts-requires : tie.Need-write-parts-requires
 write-parts-requires c κs =
@@ -60,7 +60,7 @@ same-length-4 c = search needs
 returns-3 : tie.Need-returns-3
 returns-3 c =
     let is = c .before .before .before .before .before .before .before .before .read-table .ensures in
-    loads-parts _ _ _ _ _ (c .before .before .before .before .before .before .before .before .before .before .before .before .before .read-bytes .ensures .0) (c .before .before .before .write-parts .result) _ _ _ (c .parts-end .ensures) is (c .before .before .before .before .before .before .if2 .left) (c .before .before .before .write-parts .ensures)
+    loads-parts _ _ _ _ _ (c .before .before .before .before .before .before .before .before .before .before .before .before .before .read-bytes .ensures .inside) (c .before .before .before .write-parts .result) _ _ _ (c .parts-end .ensures) is (c .before .before .before .before .before .before .if2 .left) (c .before .before .before .write-parts .ensures)
 
 pub load-spec : {M : Type 1} → statement M
 load-spec =

@@ -1,10 +1,12 @@
 -- `loader::read_bytes` meets its contract. The loop's invariant: the bytes held lie in the buffer, which keeps its length. Bytes that are cut are fewer than
 -- the longest table has, so there is room for more; it ends because the room falls. Assumes nothing.
 use Prim.Native.Nat.{_-_, _≤_}
-use mathlib.Core.Path.{_≡_, refl, sym, subst, _∙_}
+use mathlib.Core.Path.{_≡_, refl, sym, ap, subst, _∙_}
 use native.Mathlib.Omega.{arith}
 use lib.ListN.{length, take}
 use lib.Seq.{length-take-le}
+use Rattle.basics.specs.Choice.{clash}
+use Rattle.table_bytes.specs.Refusals.{tableRefusal}
 use Rattle.table_bytes.specs.Decided.{cut-short}
 use Rattle.descriptors.specs.declared.Part.{Part}
 use Rattle.descriptors.specs.Reading.{Fits}
@@ -46,7 +48,13 @@ same-length : tie.Need-same-length Inv-loop μ-loop
 same-length c = omega (arith, c .before .before .before .before .before .before .before .before .before .loop .inv, c .before .before .before .before .read-part .ensures .size)
 
 returns : tie.Need-returns Inv-loop μ-loop
-returns c = (omega (arith, c .before .before .before .before .before .before .before .before .before .loop .inv, c .before .before .before .before .read-part .ensures .size), omega (arith, c .before .before .before .before .before .before .before .before .before .loop .inv, c .before .before .before .before .read-part .ensures .size))
+returns c =
+    let came = c .before .before .before .before .read-part .ensures in
+    record {
+      inside = omega (arith, c .before .before .before .before .before .before .before .before .before .loop .inv, came .size);
+      size = omega (arith, c .before .before .before .before .before .before .before .before .before .loop .inv, came .size);
+      cut = λ e. ap tableRefusal (came .kept) ∙ sym (c .before .before .before .before .before .before .before .table-refusal .ensures) ∙ c .before .before .before .before .before .before .if1 .taken;
+    }
 
 add-held : tie.Need-add-held Inv-loop μ-loop
 add-held c =
@@ -70,7 +78,7 @@ same-length-2 : tie.Need-same-length-2 Inv-loop μ-loop
 same-length-2 c = c .before .before .before .loop .inv .1
 
 returns-2 : tie.Need-returns-2 Inv-loop μ-loop
-returns-2 c = c .before .before .before .loop .inv
+returns-2 c = record { inside = c .before .before .before .loop .inv .0; size = c .before .before .before .loop .inv .1; cut = λ e. absurd (clash e refl) }
 
 pub read-bytes-spec : {M : Type 1} → statement M
 read-bytes-spec =
