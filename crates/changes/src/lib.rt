@@ -1,17 +1,30 @@
-// Changes of a state's parts, in place: a lock given, locks given up, a request stored.
+// Changes of a state's parts, in place: a lock given, locks given up, objects certified no more, a request stored.
 ghost use mathlib.Core.Path.{_≡_};
-ghost use Prim.Native.Nat.{_≤_};
+ghost use Prim.Native.Nat.{_+_, _≤_};
 ghost use Rattle.basics.specs.Arrays.{put};
 ghost use Rattle.ranks.specs.Ranks as R;
-ghost use Rattle.state.specs.State.{mostJobs, mostObjects, modeOfRequest, objectOfRequest, grantReaders, grantWriters, releaseReaders, releaseSets};
+ghost use Rattle.state.specs.State.{mostJobs, mostObjects, modeOfRequest, objectOfRequest, mark, grantReaders, grantWriters, grantMarks, releaseReaders, releaseSets, keptIn, dropMarks};
 use ranks::RankSet;
 use state::JobRequests;
+use state::ObjectMarks;
+use state::Sets;
 use state::SetsMut;
 
-// Gives the rank its lock on the object, and ends its wait; a write lock replaces its read lock.
+// Puts the object into the set.
+fn mark_object(marks: &mut ObjectMarks, object: u8)
+    requires { ⌜ (1 ≤ object) × (object ≤ mostObjects) ⌝ }
+    ensures { λ _. ⌜ now (marks .exit) ≡ mark object (now (marks .entry)) ⌝ }
+{
+    let i = object - 1;
+    let word = (i / 64) as usize;
+    marks[word] = ranks::with(marks[word], i % 64 + 1);
+}
+
+// Gives the rank its lock on the object, and ends its wait; a write lock replaces its read lock, a certify lock its write lock.
 pub fn grant(
     readers: SetsMut,
     writers: SetsMut,
+    certified: &mut ObjectMarks,
     request: &mut JobRequests,
     mode: u8,
     rank: u8,
@@ -20,6 +33,7 @@ pub fn grant(
     requires { ⌜ (1 ≤ rank) × (rank ≤ mostJobs) × (1 ≤ object) × (object ≤ mostObjects) ⌝ }
     ensures { λ _. ⌜ (now (readers .exit) ≡ grantReaders mode rank object (now (readers .entry)))
         × (now (writers .exit) ≡ grantWriters mode rank object (now (writers .entry)))
+        × (now (certified .exit) ≡ grantMarks mode object (now (certified .entry)))
         × (now (request .exit) ≡ put (now (request .entry)) rank 0) ⌝ }
 {
     let i = (object - 1) as usize;
@@ -32,6 +46,9 @@ pub fn grant(
         let writing = writers[i];
         readers[i] = ranks::without(reading, rank);
         writers[i] = ranks::with(writing, rank);
+        if mode == 3 {
+            mark_object(certified, object);
+        }
     }
 }
 
@@ -56,6 +73,35 @@ pub fn release_sets(sets: SetsMut, rank: u8)
         sets[i] = ranks::without(sets[i], rank);
         i += 1;
     }
+}
+
+// What is left of a word of a set of objects, whose places stand behind an index, without the objects that the rank writes.
+fn kept_in(writers: Sets, word: u64, from: usize, rank: u8) -> u64
+    requires { ⌜ (from + 64 ≤ mostObjects) × (1 ≤ rank) × (rank ≤ mostJobs) ⌝ }
+    ensures { λ r. ⌜ r ≡ keptIn rank (now (writers .entry)) from 64 word ⌝ }
+{
+    let mut kept = word;
+    let mut rest = word;
+    while !ranks::is_empty(rest) {
+        let place = ranks::first(rest);
+        let i = from + (place as usize) - 1;
+        if ranks::contains(writers[i], rank) {
+            kept = ranks::without(kept, place);
+        }
+        rest = ranks::without(rest, place);
+    }
+    kept
+}
+
+// Takes the objects that the rank writes out of the set.
+pub fn drop_marks(marks: &mut ObjectMarks, writers: Sets, rank: u8)
+    requires { ⌜ (1 ≤ rank) × (rank ≤ mostJobs) ⌝ }
+    ensures { λ _. ⌜ now (marks .exit) ≡ dropMarks rank (now (writers .entry)) (now (marks .entry)) ⌝ }
+{
+    let low = kept_in(writers, marks[0], 0, rank);
+    let high = kept_in(writers, marks[1], 64, rank);
+    marks[0] = low;
+    marks[1] = high;
 }
 
 // The mode of a request.

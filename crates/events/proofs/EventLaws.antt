@@ -12,7 +12,7 @@ use borrow.Author.Tests.{eq-eqb, ne-eqb, ltb-false, le-leb, lt-leb}
 use Rattle.basics.specs.Choice.{between, inside-between}
 use Rattle.basics.specs.Arrays.{at, put, at-put-same, at-put-other, at-out, length-put}
 use Rattle.state.specs.declared.State.{State}
-use Rattle.state.specs.State.{mostJobs, mostObjects, requestedMode, requestedObject, activate, await, grant}
+use Rattle.state.specs.State.{mostJobs, mostObjects, certify, requestedMode, requestedObject, activate, await, grant}
 use Rattle.weights.specs.Keys.{Weigh, keyWeight, keyHolder, keyObject, lowestKeyBy}
 use Rattle.weights.specs.KeyLaws.{key-at}
 use Rattle.rule.specs.Granting.{passesBelow, reason, wakeable}
@@ -32,6 +32,10 @@ module _ (s : State) (k r o : ℕ) where
   unfolding accepted
   accepted-lock a b = simp (ne-eqb k 1 (λ e. omega arith), inside-between 2 3 k a b)
 
+  pub accepted-certify : k ≡ 7 → accepted s k r o ≡ request s certify r o
+  unfolding accepted
+  accepted-certify e = rw e
+
   pub accepted-unlock : k ≡ 4 → accepted s k r o ≡ unlock s r o
   unfolding accepted
   accepted-unlock e = rw e
@@ -39,7 +43,7 @@ module _ (s : State) (k r o : ℕ) where
   pub accepted-finish : 5 ≤ k → k ≤ 6 → accepted s k r o ≡ finish s r
   unfolding accepted
   accepted-finish a b =
-      simp (ne-eqb k 1 (λ e. omega arith), le-leb 2 k (omega arith), lt-leb k 3 (omega arith), ne-eqb k 4 (λ e. omega arith), inside-between 5 6 k a b)
+      simp (ne-eqb k 1 (λ e. omega arith), le-leb 2 k (omega arith), lt-leb k 3 (omega arith), ne-eqb k 4 (λ e. omega arith), ne-eqb k 7 (λ e. omega arith), inside-between 5 6 k a b)
 
   -- ---- refused, or not
 
@@ -51,7 +55,7 @@ module _ (s : State) (k r o : ℕ) where
   unfolding perform
   perform-accepted e = simp (eq-eqb (eventRefusal s k r o) 0 e)
 
-  pub perform-unknown : between 1 6 k ≡ false → outcome (Refused 9) s ≡ perform s k r o
+  pub perform-unknown : between 1 7 k ≡ false → outcome (Refused 9) s ≡ perform s k r o
   unfolding perform eventRefusal
   perform-unknown e = sym (simp e)
 
@@ -68,7 +72,7 @@ waits s m r o k e = simp e
 
 -- the key that stops a request is a lock's: its holder and its object are in range
 pub stopped : (weigh : Weigh) (s : State) (j k : ℕ) → k ≡ lowestKeyBy weigh s j → passesBelow j k ≡ false → j ≤ mostJobs → s .counts .objects ≤ mostObjects
-    → (1 ≤ keyHolder k) × (keyHolder k ≤ mostJobs) × (keyObject k ≤ mostObjects)
+    → (1 ≤ keyHolder k) × (keyHolder k ≤ mostJobs) × (1 ≤ keyObject k) × (keyObject k ≤ mostObjects)
 stopped weigh s j k e fails l n = elim (key-at weigh s j) [
   | inl z ↦ absurd (omega (arith, e, z, ltb-false j (keyWeight k) fails))
   | inr w ↦ (let r = w .lock .rank in let o = w .lock .object in omega (arith, e, w .is, r, o))

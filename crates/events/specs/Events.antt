@@ -25,7 +25,7 @@ requestMeeting s m r o k =
     if passesBelow r k then outcome Granted (grant s m r o) else
     outcome (Waits (keyHolder k) (keyObject k) (reason s m o (keyHolder k) (keyObject k))) (await s m r o)
 
--- "2 read-lock, 3 write-lock: granted, or the job waits."
+-- "2 read-lock, 3 write-lock: granted, or the job waits." "Event 7 asks to turn a held write lock into a certify lock, by the grant rule of 01" (02, CR 6)
 abbrev pub request : State → ℕ → ℕ → ℕ → Outcome
 request s m r o = requestMeeting s m r o (lowestKey s r)
 

@@ -6,16 +6,16 @@ use mathlib.Core.Bool.{Bool, true, false}
 use Prim.Native.Nat.{ℕ, zero, suc, _≤_}
 use native.Mathlib.Omega.{arith}
 use borrow.Author.Tests.{ne-eqb, not-false}
-use Rattle.basics.specs.Choice.{if_then_else_, between-true}
+use Rattle.basics.specs.Choice.{if_then_else_, and-left, between-true}
 use Rattle.state.specs.declared.State.{State}
-use Rattle.state.specs.State.{read, write, isActive, requestedMode, requestedObject, await, grant, release, endRun}
+use Rattle.state.specs.State.{read, write, certify, isActive, requestedMode, requestedObject, await, grant, release, endRun}
 use Rattle.state.specs.Facts.{RequestFacts, Facts}
 use Rattle.state.specs.Keeping.{activate-keeps, await-keeps, release-keeps, end-keeps, grant-keeps}
 use Rattle.rule.specs.Granting.{passes, wakes, wakeable}
 use Rattle.rule.specs.Conflicts.{no-conflict}
 use Rattle.rule.specs.WakeLaws.{FoundAt, Found, wakeable-found, wakes-is}
 use Rattle.refusals.specs.Refusals.{eventRefusal}
-use Rattle.refusals.specs.AcceptedEvent.{AcceptedEvent, event-not-refused, not-waiting, read-facts, write-facts}
+use Rattle.refusals.specs.AcceptedEvent.{AcceptedEvent, event-not-refused, not-waiting, read-facts, write-facts, certify-facts}
 use Rattle.events.specs.declared.Answer.{Answer}
 use Rattle.events.specs.declared.Answer.the-variants.{Granted, Refused}
 use Rattle.events.specs.Events.{outcome, requestMeeting, request, woken, wake, accepted, unlessRefused, perform}
@@ -74,13 +74,15 @@ accepted-keeps : (s : State) → Facts s → (k r o : ℕ) → AcceptedEvent s k
 unfolding accepted wake
 accepted-keeps s F zero r o A = F
 accepted-keeps s F (suc zero) r o A = activate-keeps s F r (A .rank .0) (A .rank .1) (A .not-12)
-accepted-keeps s F (suc (suc zero)) r o A = request-keeps s F r (A .rank .0) (A .rank .1) read o (read-facts s r o A)
-accepted-keeps s F (suc (suc (suc zero))) r o A = request-keeps s F r (A .rank .0) (A .rank .1) write o (write-facts s r o A)
+accepted-keeps s F (suc (suc zero)) r o A = request-keeps s F r (A .rank .0) (A .rank .1) read o (read-facts s (F .version) r o A)
+accepted-keeps s F (suc (suc (suc zero))) r o A = request-keeps s F r (A .rank .0) (A .rank .1) write o (write-facts s (F .version) r o A)
 accepted-keeps s F (suc (suc (suc (suc zero)))) r o A = woken-keeps (release s r o) (release-accepted-keeps s F r o A)
 accepted-keeps s F (suc (suc (suc (suc (suc zero))))) r o A = woken-keeps (endRun s r) (end-keeps s F r (A .rank .0) (A .rank .1))
 accepted-keeps s F (suc (suc (suc (suc (suc (suc zero)))))) r o A = woken-keeps (endRun s r) (end-keeps s F r (A .rank .0) (A .rank .1))
-accepted-keeps s F (suc (suc (suc (suc (suc (suc (suc k))))))) r o A =
-    absurd (omega (arith, between-true 1 6 (suc (suc (suc (suc (suc (suc (suc k))))))) (A .kind)))
+accepted-keeps s F (suc (suc (suc (suc (suc (suc (suc zero))))))) r o A =
+    request-keeps s F r (A .rank .0) (A .rank .1) certify o (certify-facts s (F .version) r o A)
+accepted-keeps s F (suc (suc (suc (suc (suc (suc (suc (suc k)))))))) r o A =
+    absurd (omega (arith, between-true 1 7 (suc (suc (suc (suc (suc (suc (suc (suc k)))))))) (and-left _ _ (A .kind))))
 
 -- ---- any event
 

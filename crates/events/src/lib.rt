@@ -2,12 +2,13 @@
 ghost use mathlib.Core.Path.{_≡_};
 ghost use mathlib.Core.List.{List};
 ghost use Prim.Native.Nat.{ℕ, _≤_};
-ghost use Rattle.state.specs.State.{mostJobs, mostObjects, write, stateOf};
+ghost use Rattle.state.specs.State.{mostJobs, mostObjects, certify, stateOf};
 ghost use Rattle.refusals.specs.Accepting.{RequestsFit, InRange};
 ghost use Rattle.events.specs.Events as E;
 
 mod packing;
 
+use changes::drop_marks;
 use changes::grant;
 use changes::mode_of_request;
 use changes::object_of_request;
@@ -16,6 +17,7 @@ use changes::release_sets;
 use changes::store_request;
 pub use packing::pack;
 use ranks::RankSet;
+use refusals::certify_refusal;
 use refusals::finish_refusal;
 use refusals::lock_refusal;
 use refusals::set_of;
@@ -23,6 +25,7 @@ use refusals::start_refusal;
 use refusals::unlock_refusal;
 use state::Counts;
 use state::JobRequests;
+use state::ObjectMarks;
 use state::Sets;
 use state::SetsMut;
 use state::State;
@@ -44,9 +47,9 @@ pub struct Outcome {
 // Kind 1: the job becomes active.
 fn start(counts: Counts, active: &mut RankSet, rank: u8, object: u8) -> Answer
     requires { ⌜ counts .jobs ≤ mostJobs ⌝ }
-    ensures { λ r. ⌜ ((u : ℕ) (ps mr mw rs ws q : List ℕ) →
-        E.outcome r (stateOf counts ps mr mw (now (active .exit)) u rs ws q)
-        ≡ E.perform (stateOf counts ps mr mw (now (active .entry)) u rs ws q) 1 rank object) ⌝ }
+    ensures { λ r. ⌜ ((u : ℕ) (ps mr mw rs ws cs q : List ℕ) →
+        E.outcome r (stateOf counts ps mr mw (now (active .exit)) u rs ws cs q)
+        ≡ E.perform (stateOf counts ps mr mw (now (active .entry)) u rs ws cs q) 1 rank object) ⌝ }
 {
     let number = start_refusal(counts, *active, rank, object);
     if number != 0 {
@@ -63,28 +66,31 @@ fn grant_or_wait<'a>(
     may_write: Sets<'a>,
     readers: SetsMut,
     writers: SetsMut,
+    certified: &mut ObjectMarks,
     request: &mut JobRequests,
     mode: u8,
     rank: u8,
     object: u8,
 ) -> Answer
-    requires { ⌜ (counts .objects ≤ mostObjects) × (mode ≤ write) × (1 ≤ rank) × (rank ≤ mostJobs) × (1 ≤ object) × (object ≤ mostObjects) ⌝ }
+    requires { ⌜ (counts .objects ≤ mostObjects) × (1 ≤ mode) × (mode ≤ certify) × (1 ≤ rank) × (rank ≤ mostJobs) × (1 ≤ object) × (object ≤ mostObjects) ⌝ }
     ensures { λ r. ⌜ ((a u : ℕ) (ps : List ℕ) →
-        E.outcome r (stateOf counts ps (now («may_read» .entry)) (now («may_write» .entry)) a u (now (readers .exit)) (now (writers .exit)) (now (request .exit)))
-        ≡ E.request (stateOf counts ps (now («may_read» .entry)) (now («may_write» .entry)) a u (now (readers .entry)) (now (writers .entry)) (now (request .entry))) mode rank object) ⌝ }
+        E.outcome r (stateOf counts ps (now («may_read» .entry)) (now («may_write» .entry)) a u (now (readers .exit)) (now (writers .exit)) (now (certified .exit)) (now (request .exit)))
+        ≡ E.request (stateOf counts ps (now («may_read» .entry)) (now («may_write» .entry)) a u (now (readers .entry)) (now (writers .entry)) (now (certified .entry)) (now (request .entry))) mode rank object) ⌝ }
 {
-    let key = weights::lowest_key(counts, may_read, may_write, readers, writers, rank);
+    let key = weights::lowest_key(counts, may_read, may_write, readers, writers, certified, rank);
     if rule::passes(rank, key) {
-        grant(readers, writers, request, mode, rank, object);
+        grant(readers, writers, certified, request, mode, rank, object);
         return Answer::Granted;
     }
     let holder = weights::key_holder(key);
     let named = weights::key_object(key);
     let reason = rule::reason(
+        counts.version,
         mode,
         object,
         holder,
         named,
+        state::shares_with_none(counts.version, certified, named),
         set_of(writers, named),
         weights::ceiling(counts, set_of(may_write, named)),
     );
@@ -105,6 +111,7 @@ fn lock<'a>(
     unlocked: RankSet,
     readers: SetsMut,
     writers: SetsMut,
+    certified: &mut ObjectMarks,
     request: &mut JobRequests,
     kind: u8,
     rank: u8,
@@ -112,8 +119,8 @@ fn lock<'a>(
 ) -> Answer
     requires { ⌜ (counts .jobs ≤ mostJobs) × (counts .objects ≤ mostObjects) × (2 ≤ kind) × (kind ≤ 3) ⌝ }
     ensures { λ r. ⌜ ((ps : List ℕ) →
-        E.outcome r (stateOf counts ps (now («may_read» .entry)) (now («may_write» .entry)) active unlocked (now (readers .exit)) (now (writers .exit)) (now (request .exit)))
-        ≡ E.perform (stateOf counts ps (now («may_read» .entry)) (now («may_write» .entry)) active unlocked (now (readers .entry)) (now (writers .entry)) (now (request .entry))) kind rank object) ⌝ }
+        E.outcome r (stateOf counts ps (now («may_read» .entry)) (now («may_write» .entry)) active unlocked (now (readers .exit)) (now (writers .exit)) (now (certified .exit)) (now (request .exit)))
+        ≡ E.perform (stateOf counts ps (now («may_read» .entry)) (now («may_write» .entry)) active unlocked (now (readers .entry)) (now (writers .entry)) (now (certified .entry)) (now (request .entry))) kind rank object) ⌝ }
 {
     let number = lock_refusal(
         counts,
@@ -137,8 +144,48 @@ fn lock<'a>(
         may_write,
         readers,
         writers,
+        certified,
         request,
         kind - 1,
+        rank,
+        object,
+    )
+}
+
+// Kind 7: the job's write lock becomes a certify lock, or the job waits for that and keeps its write lock.
+fn certify<'a>(
+    counts: Counts,
+    may_read: Sets<'a>,
+    may_write: Sets<'a>,
+    active: RankSet,
+    unlocked: RankSet,
+    readers: SetsMut,
+    writers: SetsMut,
+    certified: &mut ObjectMarks,
+    request: &mut JobRequests,
+    rank: u8,
+    object: u8,
+) -> Answer
+    requires { ⌜ (counts .jobs ≤ mostJobs) × (counts .objects ≤ mostObjects) ⌝ }
+    ensures { λ r. ⌜ ((ps : List ℕ) →
+        E.outcome r (stateOf counts ps (now («may_read» .entry)) (now («may_write» .entry)) active unlocked (now (readers .exit)) (now (writers .exit)) (now (certified .exit)) (now (request .exit)))
+        ≡ E.perform (stateOf counts ps (now («may_read» .entry)) (now («may_write» .entry)) active unlocked (now (readers .entry)) (now (writers .entry)) (now (certified .entry)) (now (request .entry))) 7 rank object) ⌝ }
+{
+    let number = certify_refusal(
+        counts, may_write, active, unlocked, writers, certified, request, rank, object,
+    );
+    if number != 0 {
+        return Answer::Refused(number);
+    }
+    grant_or_wait(
+        counts,
+        may_read,
+        may_write,
+        readers,
+        writers,
+        certified,
+        request,
+        3,
         rank,
         object,
     )
@@ -151,19 +198,21 @@ fn wake<'a>(
     may_write: Sets<'a>,
     readers: SetsMut,
     writers: SetsMut,
+    certified: &mut ObjectMarks,
     request: &mut JobRequests,
 ) -> Answer
     requires { ⌜ (counts .jobs ≤ mostJobs) × (counts .objects ≤ mostObjects) × RequestsFit (now request) ⌝ }
     ensures { λ r. ⌜ ((a u : ℕ) (ps : List ℕ) →
-        E.outcome r (stateOf counts ps (now («may_read» .entry)) (now («may_write» .entry)) a u (now (readers .exit)) (now (writers .exit)) (now (request .exit)))
-        ≡ E.wake (stateOf counts ps (now («may_read» .entry)) (now («may_write» .entry)) a u (now (readers .entry)) (now (writers .entry)) (now (request .entry)))) ⌝ }
+        E.outcome r (stateOf counts ps (now («may_read» .entry)) (now («may_write» .entry)) a u (now (readers .exit)) (now (writers .exit)) (now (certified .exit)) (now (request .exit)))
+        ≡ E.wake (stateOf counts ps (now («may_read» .entry)) (now («may_write» .entry)) a u (now (readers .entry)) (now (writers .entry)) (now (certified .entry)) (now (request .entry)))) ⌝ }
 {
-    let rank = rule::wakeable(counts, may_read, may_write, readers, writers, request);
+    let rank = rule::wakeable(counts, may_read, may_write, readers, writers, certified, request);
     if rank != 0 {
         let asked = request[(rank - 1) as usize];
         grant(
             readers,
             writers,
+            certified,
             request,
             mode_of_request(asked),
             rank,
@@ -182,21 +231,22 @@ fn unlock<'a>(
     unlocked: &mut RankSet,
     readers: SetsMut,
     writers: SetsMut,
+    certified: &mut ObjectMarks,
     request: &mut JobRequests,
     rank: u8,
     object: u8,
 ) -> Answer
     requires { ⌜ InRange counts (now request) ⌝ }
     ensures { λ r. ⌜ ((ps : List ℕ) →
-        E.outcome r (stateOf counts ps (now («may_read» .entry)) (now («may_write» .entry)) active (now (unlocked .exit)) (now (readers .exit)) (now (writers .exit)) (now (request .exit)))
-        ≡ E.perform (stateOf counts ps (now («may_read» .entry)) (now («may_write» .entry)) active (now (unlocked .entry)) (now (readers .entry)) (now (writers .entry)) (now (request .entry))) 4 rank object) ⌝ }
+        E.outcome r (stateOf counts ps (now («may_read» .entry)) (now («may_write» .entry)) active (now (unlocked .exit)) (now (readers .exit)) (now (writers .exit)) (now (certified .exit)) (now (request .exit)))
+        ≡ E.perform (stateOf counts ps (now («may_read» .entry)) (now («may_write» .entry)) active (now (unlocked .entry)) (now (readers .entry)) (now (writers .entry)) (now (certified .entry)) (now (request .entry))) 4 rank object) ⌝ }
 {
     let number = unlock_refusal(counts, active, readers, writers, request, rank, object);
     if number != 0 {
         return Answer::Refused(number);
     }
     release(unlocked, readers, rank, object);
-    wake(counts, may_read, may_write, readers, writers, request)
+    wake(counts, may_read, may_write, readers, writers, certified, request)
 }
 
 // The job's run ends, with its locks and its request.
@@ -208,20 +258,22 @@ fn end_run<'a>(
     unlocked: &mut RankSet,
     readers: SetsMut,
     writers: SetsMut,
+    certified: &mut ObjectMarks,
     request: &mut JobRequests,
     rank: u8,
 ) -> Answer
     requires { ⌜ (counts .jobs ≤ mostJobs) × (counts .objects ≤ mostObjects) × (1 ≤ rank) × (rank ≤ mostJobs) × RequestsFit (now request) ⌝ }
     ensures { λ r. ⌜ ((ps : List ℕ) →
-        E.outcome r (stateOf counts ps (now («may_read» .entry)) (now («may_write» .entry)) (now (active .exit)) (now (unlocked .exit)) (now (readers .exit)) (now (writers .exit)) (now (request .exit)))
-        ≡ E.finish (stateOf counts ps (now («may_read» .entry)) (now («may_write» .entry)) (now (active .entry)) (now (unlocked .entry)) (now (readers .entry)) (now (writers .entry)) (now (request .entry))) rank) ⌝ }
+        E.outcome r (stateOf counts ps (now («may_read» .entry)) (now («may_write» .entry)) (now (active .exit)) (now (unlocked .exit)) (now (readers .exit)) (now (writers .exit)) (now (certified .exit)) (now (request .exit)))
+        ≡ E.finish (stateOf counts ps (now («may_read» .entry)) (now («may_write» .entry)) (now (active .entry)) (now (unlocked .entry)) (now (readers .entry)) (now (writers .entry)) (now (certified .entry)) (now (request .entry))) rank) ⌝ }
 {
     *active = ranks::without(*active, rank);
     *unlocked = ranks::without(*unlocked, rank);
+    drop_marks(certified, writers, rank);
     release_sets(readers, rank);
     release_sets(writers, rank);
     store_request(request, rank, 0);
-    wake(counts, may_read, may_write, readers, writers, request)
+    wake(counts, may_read, may_write, readers, writers, certified, request)
 }
 
 // Kinds 5 and 6: the job's run ends; an abandonment also ends that of a waiting job.
@@ -233,6 +285,7 @@ fn finish<'a>(
     unlocked: &mut RankSet,
     readers: SetsMut,
     writers: SetsMut,
+    certified: &mut ObjectMarks,
     request: &mut JobRequests,
     kind: u8,
     rank: u8,
@@ -240,10 +293,10 @@ fn finish<'a>(
 ) -> Answer
     requires { ⌜ InRange counts (now request) × (5 ≤ kind) × (kind ≤ 6) ⌝ }
     ensures { λ r. ⌜ ((ps : List ℕ) →
-        E.outcome r (stateOf counts ps (now («may_read» .entry)) (now («may_write» .entry)) (now (active .exit)) (now (unlocked .exit)) (now (readers .exit)) (now (writers .exit)) (now (request .exit)))
-        ≡ E.perform (stateOf counts ps (now («may_read» .entry)) (now («may_write» .entry)) (now (active .entry)) (now (unlocked .entry)) (now (readers .entry)) (now (writers .entry)) (now (request .entry))) kind rank object) ⌝ }
+        E.outcome r (stateOf counts ps (now («may_read» .entry)) (now («may_write» .entry)) (now (active .exit)) (now (unlocked .exit)) (now (readers .exit)) (now (writers .exit)) (now (certified .exit)) (now (request .exit)))
+        ≡ E.perform (stateOf counts ps (now («may_read» .entry)) (now («may_write» .entry)) (now (active .entry)) (now (unlocked .entry)) (now (readers .entry)) (now (writers .entry)) (now (certified .entry)) (now (request .entry))) kind rank object) ⌝ }
 {
-    let number = finish_refusal(counts, *active, request, kind, rank, object);
+    let number = finish_refusal(counts, *active, writers, certified, request, kind, rank, object);
     if number != 0 {
         return Answer::Refused(number);
     }
@@ -255,6 +308,7 @@ fn finish<'a>(
         unlocked,
         readers,
         writers,
+        certified,
         request,
         rank,
     )
@@ -269,6 +323,7 @@ pub fn perform<'a>(
     unlocked: &mut RankSet,
     readers: SetsMut,
     writers: SetsMut,
+    certified: &mut ObjectMarks,
     request: &mut JobRequests,
     kind: u8,
     rank: u8,
@@ -276,8 +331,8 @@ pub fn perform<'a>(
 ) -> Answer
     requires { ⌜ InRange counts (now request) ⌝ }
     ensures { λ r. ⌜ ((ps : List ℕ) →
-        E.outcome r (stateOf counts ps (now («may_read» .entry)) (now («may_write» .entry)) (now (active .exit)) (now (unlocked .exit)) (now (readers .exit)) (now (writers .exit)) (now (request .exit)))
-        ≡ E.perform (stateOf counts ps (now («may_read» .entry)) (now («may_write» .entry)) (now (active .entry)) (now (unlocked .entry)) (now (readers .entry)) (now (writers .entry)) (now (request .entry))) kind rank object) ⌝ }
+        E.outcome r (stateOf counts ps (now («may_read» .entry)) (now («may_write» .entry)) (now (active .exit)) (now (unlocked .exit)) (now (readers .exit)) (now (writers .exit)) (now (certified .exit)) (now (request .exit)))
+        ≡ E.perform (stateOf counts ps (now («may_read» .entry)) (now («may_write» .entry)) (now (active .entry)) (now (unlocked .entry)) (now (readers .entry)) (now (writers .entry)) (now (certified .entry)) (now (request .entry))) kind rank object) ⌝ }
 {
     match kind {
         1 => start(counts, active, rank, object),
@@ -289,6 +344,7 @@ pub fn perform<'a>(
             *unlocked,
             readers,
             writers,
+            certified,
             request,
             kind,
             rank,
@@ -302,6 +358,7 @@ pub fn perform<'a>(
             unlocked,
             readers,
             writers,
+            certified,
             request,
             rank,
             object,
@@ -314,11 +371,25 @@ pub fn perform<'a>(
             unlocked,
             readers,
             writers,
+            certified,
             request,
             kind,
             rank,
             object,
         ),
-        0 | 7..=255 => Answer::Refused(9),
+        7 => certify(
+            counts,
+            may_read,
+            may_write,
+            *active,
+            *unlocked,
+            readers,
+            writers,
+            certified,
+            request,
+            rank,
+            object,
+        ),
+        0 | 8..=255 => Answer::Refused(9),
     }
 }

@@ -13,6 +13,7 @@ use ranks::RankSet;
 use state::Counts;
 use state::JobProcessors;
 use state::JobRequests;
+use state::ObjectMarks;
 use state::Sets;
 use state::State;
 use state::fits;
@@ -38,6 +39,7 @@ pub fn make_events(state: State, seed: u32, count: usize, buf: &mut [u8]) -> Mad
         state.unlocked,
         &state.readers,
         &state.writers,
+        &state.certified,
         &state.request,
         seed,
         count,
@@ -55,15 +57,16 @@ pub fn make_load<'a>(
     unlocked: RankSet,
     readers: Sets<'a>,
     writers: Sets<'a>,
+    certified: &'a ObjectMarks,
     request: &'a JobRequests,
     seed: u32,
     count: usize,
     buf: &mut [u8],
 ) -> Made
     ensures { λ r. ⌜ (r ≡ L.makeEvents (stateOf counts (now («processor_of» .entry)) (now («may_read» .entry)) (now («may_write» .entry))
-        active unlocked (now (readers .entry)) (now (writers .entry)) (now (request .entry))) seed count (now (buf .entry)))
+        active unlocked (now (readers .entry)) (now (writers .entry)) (now (certified .entry)) (now (request .entry))) seed count (now (buf .entry)))
         × (now (buf .exit) ≡ L.eventsMade (stateOf counts (now («processor_of» .entry)) (now («may_read» .entry)) (now («may_write» .entry))
-        active unlocked (now (readers .entry)) (now (writers .entry)) (now (request .entry))) seed count (now (buf .entry))) ⌝ }
+        active unlocked (now (readers .entry)) (now (writers .entry)) (now (certified .entry)) (now (request .entry))) seed count (now (buf .entry))) ⌝ }
 {
     let well = fits(
         counts,
@@ -74,6 +77,7 @@ pub fn make_load<'a>(
         unlocked,
         readers,
         writers,
+        certified,
         request,
     );
     if !well {

@@ -14,14 +14,14 @@ use Rattle.rule.specs.Parts.{waitsOf}
 use Rattle.inheritance.specs.Running.{inheritedRank, runningRank}
 
 -- a state with these counts, declarations, locks and requests, with the jobs' processors and these active jobs
-abbrev pub runState : Counts → List ℕ → ℕ → List ℕ → List ℕ → List ℕ → List ℕ → List ℕ → State
-runState counts processorOf active mayRead mayWrite readers writers request =
-    stateOf counts processorOf mayRead mayWrite active 0 readers writers request
+abbrev pub runState : Counts → List ℕ → ℕ → List ℕ → List ℕ → List ℕ → List ℕ → List ℕ → List ℕ → State
+runState counts processorOf active mayRead mayWrite readers writers certified request =
+    stateOf counts processorOf mayRead mayWrite active 0 readers writers certified request
 
 -- a state's parts
 abbrev pub runOf : State → State
 runOf s =
-    runState (s .counts) (s .«processor_of») (s .active) (s .«may_read») (s .«may_write») (s .readers) (s .writers) (s .request)
+    runState (s .counts) (s .«processor_of») (s .active) (s .«may_read») (s .«may_write») (s .readers) (s .writers) (s .certified) (s .request)
 
 pub inherited-rank-parts : (s : State) (j : ℕ) → inheritedRank s j ≡ inheritedRank (waitsOf s) j
 unfolding lowestKeyBy objectKey othersKey weight namedKey inheritedRank

@@ -12,6 +12,7 @@ use rule::named_key;
 use state::Counts;
 use state::JobProcessors;
 use state::JobRequests;
+use state::ObjectMarks;
 use state::Sets;
 use weights::NO_KEY;
 use weights::lower;
@@ -26,10 +27,11 @@ pub fn named_locks<'a>(
     may_write: Sets<'a>,
     readers: Sets<'a>,
     writers: Sets<'a>,
+    certified: &'a ObjectMarks,
     request: &'a JobRequests,
 ) -> JobLocks
     requires { ⌜ (counts .jobs ≤ mostJobs) × (counts .objects ≤ mostObjects) ⌝ }
-    ensures { λ r. ⌜ I.NamedBy r (waitsState counts (now («may_read» .entry)) (now («may_write» .entry)) (now (readers .entry)) (now (writers .entry)) (now (request .entry))) ⌝ }
+    ensures { λ r. ⌜ I.NamedBy r (waitsState counts (now («may_read» .entry)) (now («may_write» .entry)) (now (readers .entry)) (now (writers .entry)) (now (certified .entry)) (now (request .entry))) ⌝ }
 {
     let jobs = counts.jobs;
     let mut named: JobLocks = [0; 64];
@@ -43,6 +45,7 @@ pub fn named_locks<'a>(
             may_write,
             readers,
             writers,
+            certified,
             request[i],
             rank,
         );
@@ -101,13 +104,14 @@ pub fn inherited_rank<'a>(
     may_write: Sets<'a>,
     readers: Sets<'a>,
     writers: Sets<'a>,
+    certified: &'a ObjectMarks,
     request: &'a JobRequests,
     rank: u8,
 ) -> u8
     requires { ⌜ (counts .jobs ≤ mostJobs) × (counts .objects ≤ mostObjects) × (1 ≤ rank) ⌝ }
-    ensures { λ r. ⌜ r ≡ R.inheritedRank (waitsState counts (now («may_read» .entry)) (now («may_write» .entry)) (now (readers .entry)) (now (writers .entry)) (now (request .entry))) rank ⌝ }
+    ensures { λ r. ⌜ r ≡ R.inheritedRank (waitsState counts (now («may_read» .entry)) (now («may_write» .entry)) (now (readers .entry)) (now (writers .entry)) (now (certified .entry)) (now (request .entry))) rank ⌝ }
 {
-    let named = named_locks(counts, may_read, may_write, readers, writers, request);
+    let named = named_locks(counts, may_read, may_write, readers, writers, certified, request);
     inherited_by(counts.jobs, &named, rank)
 }
 
@@ -163,13 +167,14 @@ pub fn running_rank<'a>(
     may_write: Sets<'a>,
     readers: Sets<'a>,
     writers: Sets<'a>,
+    certified: &'a ObjectMarks,
     request: &'a JobRequests,
     processor: u8,
 ) -> u8
     requires { ⌜ (counts .jobs ≤ mostJobs) × (counts .objects ≤ mostObjects) ⌝ }
-    ensures { λ r. ⌜ r ≡ R.runningRank (runState counts (now («processor_of» .entry)) active (now («may_read» .entry)) (now («may_write» .entry)) (now (readers .entry)) (now (writers .entry)) (now (request .entry))) processor ⌝ }
+    ensures { λ r. ⌜ r ≡ R.runningRank (runState counts (now («processor_of» .entry)) active (now («may_read» .entry)) (now («may_write» .entry)) (now (readers .entry)) (now (writers .entry)) (now (certified .entry)) (now (request .entry))) processor ⌝ }
 {
-    let named = named_locks(counts, may_read, may_write, readers, writers, request);
+    let named = named_locks(counts, may_read, may_write, readers, writers, certified, request);
     running_by(
         counts.jobs,
         &named,

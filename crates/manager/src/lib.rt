@@ -23,6 +23,7 @@ use ranks::RankSet;
 use state::Counts;
 use state::JobProcessors;
 use state::JobRequests;
+use state::ObjectMarks;
 use state::Sets;
 use state::SetsMut;
 use state::State;
@@ -39,14 +40,15 @@ pub fn act_tested<'a>(
     unlocked: &mut RankSet,
     readers: SetsMut,
     writers: SetsMut,
+    certified: &mut ObjectMarks,
     request: &mut JobRequests,
     kind: u8,
     rank: u8,
     object: u8,
 ) -> Answer
-    requires { ⌜ wellFormed (stateOf counts (now «processor_of») (now «may_read») (now «may_write») (now active) (now unlocked) (now readers) (now writers) (now request)) ≡ true ⌝ }
-    ensures { λ r. ⌜ outcome r (stateOf counts (now («processor_of» .entry)) (now («may_read» .entry)) (now («may_write» .entry)) (now (active .exit)) (now (unlocked .exit)) (now (readers .exit)) (now (writers .exit)) (now (request .exit)))
-        ≡ step (stateOf counts (now («processor_of» .entry)) (now («may_read» .entry)) (now («may_write» .entry)) (now (active .entry)) (now (unlocked .entry)) (now (readers .entry)) (now (writers .entry)) (now (request .entry))) kind rank object ⌝ }
+    requires { ⌜ wellFormed (stateOf counts (now «processor_of») (now «may_read») (now «may_write») (now active) (now unlocked) (now readers) (now writers) (now certified) (now request)) ≡ true ⌝ }
+    ensures { λ r. ⌜ outcome r (stateOf counts (now («processor_of» .entry)) (now («may_read» .entry)) (now («may_write» .entry)) (now (active .exit)) (now (unlocked .exit)) (now (readers .exit)) (now (writers .exit)) (now (certified .exit)) (now (request .exit)))
+        ≡ step (stateOf counts (now («processor_of» .entry)) (now («may_read» .entry)) (now («may_write» .entry)) (now (active .entry)) (now (unlocked .entry)) (now (readers .entry)) (now (writers .entry)) (now (certified .entry)) (now (request .entry))) kind rank object ⌝ }
 {
     perform(
         counts,
@@ -56,6 +58,7 @@ pub fn act_tested<'a>(
         unlocked,
         readers,
         writers,
+        certified,
         request,
         kind,
         rank,
@@ -74,14 +77,15 @@ pub fn act_known<'a>(
     unlocked: &mut RankSet,
     readers: SetsMut,
     writers: SetsMut,
+    certified: &mut ObjectMarks,
     request: &mut JobRequests,
     kind: u8,
     rank: u8,
     object: u8,
 ) -> Answer
-    requires { ⌜ well ≡ wellFormed (stateOf counts (now «processor_of») (now «may_read») (now «may_write») (now active) (now unlocked) (now readers) (now writers) (now request)) ⌝ }
-    ensures { λ r. ⌜ outcome r (stateOf counts (now («processor_of» .entry)) (now («may_read» .entry)) (now («may_write» .entry)) (now (active .exit)) (now (unlocked .exit)) (now (readers .exit)) (now (writers .exit)) (now (request .exit)))
-        ≡ step (stateOf counts (now («processor_of» .entry)) (now («may_read» .entry)) (now («may_write» .entry)) (now (active .entry)) (now (unlocked .entry)) (now (readers .entry)) (now (writers .entry)) (now (request .entry))) kind rank object ⌝ }
+    requires { ⌜ well ≡ wellFormed (stateOf counts (now «processor_of») (now «may_read») (now «may_write») (now active) (now unlocked) (now readers) (now writers) (now certified) (now request)) ⌝ }
+    ensures { λ r. ⌜ outcome r (stateOf counts (now («processor_of» .entry)) (now («may_read» .entry)) (now («may_write» .entry)) (now (active .exit)) (now (unlocked .exit)) (now (readers .exit)) (now (writers .exit)) (now (certified .exit)) (now (request .exit)))
+        ≡ step (stateOf counts (now («processor_of» .entry)) (now («may_read» .entry)) (now («may_write» .entry)) (now (active .entry)) (now (unlocked .entry)) (now (readers .entry)) (now (writers .entry)) (now (certified .entry)) (now (request .entry))) kind rank object ⌝ }
 {
     if !well {
         return Answer::Refused(8);
@@ -95,6 +99,7 @@ pub fn act_known<'a>(
         unlocked,
         readers,
         writers,
+        certified,
         request,
         kind,
         rank,
@@ -113,16 +118,17 @@ pub fn act_packed<'a>(
     unlocked: &mut RankSet,
     readers: SetsMut,
     writers: SetsMut,
+    certified: &mut ObjectMarks,
     request: &mut JobRequests,
     kind: u8,
     rank: u8,
     object: u8,
 ) -> u32
-    requires { ⌜ well ≡ wellFormed (stateOf counts (now «processor_of») (now «may_read») (now «may_write») (now active) (now unlocked) (now readers) (now writers) (now request)) ⌝ }
-    ensures answer { λ r. ⌜ r ≡ packed (step (stateOf counts (now («processor_of» .entry)) (now («may_read» .entry)) (now («may_write» .entry)) (now (active .entry)) (now (unlocked .entry)) (now (readers .entry)) (now (writers .entry)) (now (request .entry))) kind rank object .answer) ⌝ }
-    ensures apart { λ r. ⌜ unpacked r ≡ paper (step (stateOf counts (now («processor_of» .entry)) (now («may_read» .entry)) (now («may_write» .entry)) (now (active .entry)) (now (unlocked .entry)) (now (readers .entry)) (now (writers .entry)) (now (request .entry))) kind rank object .answer) ⌝ }
-    ensures next { λ _. ⌜ stateOf counts (now («processor_of» .entry)) (now («may_read» .entry)) (now («may_write» .entry)) (now (active .exit)) (now (unlocked .exit)) (now (readers .exit)) (now (writers .exit)) (now (request .exit))
-        ≡ step (stateOf counts (now («processor_of» .entry)) (now («may_read» .entry)) (now («may_write» .entry)) (now (active .entry)) (now (unlocked .entry)) (now (readers .entry)) (now (writers .entry)) (now (request .entry))) kind rank object .state ⌝ }
+    requires { ⌜ well ≡ wellFormed (stateOf counts (now «processor_of») (now «may_read») (now «may_write») (now active) (now unlocked) (now readers) (now writers) (now certified) (now request)) ⌝ }
+    ensures answer { λ r. ⌜ r ≡ packed (step (stateOf counts (now («processor_of» .entry)) (now («may_read» .entry)) (now («may_write» .entry)) (now (active .entry)) (now (unlocked .entry)) (now (readers .entry)) (now (writers .entry)) (now (certified .entry)) (now (request .entry))) kind rank object .answer) ⌝ }
+    ensures apart { λ r. ⌜ unpacked r ≡ paper (step (stateOf counts (now («processor_of» .entry)) (now («may_read» .entry)) (now («may_write» .entry)) (now (active .entry)) (now (unlocked .entry)) (now (readers .entry)) (now (writers .entry)) (now (certified .entry)) (now (request .entry))) kind rank object .answer) ⌝ }
+    ensures next { λ _. ⌜ stateOf counts (now («processor_of» .entry)) (now («may_read» .entry)) (now («may_write» .entry)) (now (active .exit)) (now (unlocked .exit)) (now (readers .exit)) (now (writers .exit)) (now (certified .exit)) (now (request .exit))
+        ≡ step (stateOf counts (now («processor_of» .entry)) (now («may_read» .entry)) (now («may_write» .entry)) (now (active .entry)) (now (unlocked .entry)) (now (readers .entry)) (now (writers .entry)) (now (certified .entry)) (now (request .entry))) kind rank object .state ⌝ }
 {
     let answer = act_known(
         well,
@@ -134,6 +140,7 @@ pub fn act_packed<'a>(
         unlocked,
         readers,
         writers,
+        certified,
         request,
         kind,
         rank,
@@ -152,13 +159,14 @@ pub fn act<'a>(
     unlocked: &mut RankSet,
     readers: SetsMut,
     writers: SetsMut,
+    certified: &mut ObjectMarks,
     request: &mut JobRequests,
     kind: u8,
     rank: u8,
     object: u8,
 ) -> Answer
-    ensures { λ r. ⌜ outcome r (stateOf counts (now («processor_of» .entry)) (now («may_read» .entry)) (now («may_write» .entry)) (now (active .exit)) (now (unlocked .exit)) (now (readers .exit)) (now (writers .exit)) (now (request .exit)))
-        ≡ step (stateOf counts (now («processor_of» .entry)) (now («may_read» .entry)) (now («may_write» .entry)) (now (active .entry)) (now (unlocked .entry)) (now (readers .entry)) (now (writers .entry)) (now (request .entry))) kind rank object ⌝ }
+    ensures { λ r. ⌜ outcome r (stateOf counts (now («processor_of» .entry)) (now («may_read» .entry)) (now («may_write» .entry)) (now (active .exit)) (now (unlocked .exit)) (now (readers .exit)) (now (writers .exit)) (now (certified .exit)) (now (request .exit)))
+        ≡ step (stateOf counts (now («processor_of» .entry)) (now («may_read» .entry)) (now («may_write» .entry)) (now (active .entry)) (now (unlocked .entry)) (now (readers .entry)) (now (writers .entry)) (now (certified .entry)) (now (request .entry))) kind rank object ⌝ }
 {
     let well = fits(
         counts,
@@ -169,6 +177,7 @@ pub fn act<'a>(
         *unlocked,
         readers,
         writers,
+        certified,
         request,
     );
     act_known(
@@ -181,6 +190,7 @@ pub fn act<'a>(
         unlocked,
         readers,
         writers,
+        certified,
         request,
         kind,
         rank,
@@ -200,14 +210,15 @@ fn answer_each<'a>(
     unlocked: &mut RankSet,
     readers: SetsMut,
     writers: SetsMut,
+    certified: &mut ObjectMarks,
     request: &mut JobRequests,
     events: &[u8],
     answers: &mut [u32],
 )
-    requires { ⌜ Tested well (stateOf counts (now «processor_of») (now «may_read») (now «may_write») (now active) (now unlocked) (now readers) (now writers) (now request)) × (length (now events) ≤ 3 * length (now answers)) ⌝ }
-    ensures answers { λ _. ⌜ now (answers .exit) ≡ sets (now (answers .entry)) 0 (answersTo (stateOf counts (now («processor_of» .entry)) (now («may_read» .entry)) (now («may_write» .entry)) (now (active .entry)) (now (unlocked .entry)) (now (readers .entry)) (now (writers .entry)) (now (request .entry))) (now (events .entry))) ⌝ }
-    ensures state { λ _. ⌜ stateOf counts (now («processor_of» .entry)) (now («may_read» .entry)) (now («may_write» .entry)) (now (active .exit)) (now (unlocked .exit)) (now (readers .exit)) (now (writers .exit)) (now (request .exit))
-        ≡ stateAfter (stateOf counts (now («processor_of» .entry)) (now («may_read» .entry)) (now («may_write» .entry)) (now (active .entry)) (now (unlocked .entry)) (now (readers .entry)) (now (writers .entry)) (now (request .entry))) (now (events .entry)) ⌝ }
+    requires { ⌜ Tested well (stateOf counts (now «processor_of») (now «may_read») (now «may_write») (now active) (now unlocked) (now readers) (now writers) (now certified) (now request)) × (length (now events) ≤ 3 * length (now answers)) ⌝ }
+    ensures answers { λ _. ⌜ now (answers .exit) ≡ sets (now (answers .entry)) 0 (answersTo (stateOf counts (now («processor_of» .entry)) (now («may_read» .entry)) (now («may_write» .entry)) (now (active .entry)) (now (unlocked .entry)) (now (readers .entry)) (now (writers .entry)) (now (certified .entry)) (now (request .entry))) (now (events .entry))) ⌝ }
+    ensures state { λ _. ⌜ stateOf counts (now («processor_of» .entry)) (now («may_read» .entry)) (now («may_write» .entry)) (now (active .exit)) (now (unlocked .exit)) (now (readers .exit)) (now (writers .exit)) (now (certified .exit)) (now (request .exit))
+        ≡ stateAfter (stateOf counts (now («processor_of» .entry)) (now («may_read» .entry)) (now («may_write» .entry)) (now (active .entry)) (now (unlocked .entry)) (now (readers .entry)) (now (writers .entry)) (now (certified .entry)) (now (request .entry))) (now (events .entry)) ⌝ }
 {
     let mut at = 0;
     let mut i = 0;
@@ -222,6 +233,7 @@ fn answer_each<'a>(
             unlocked,
             readers,
             writers,
+            certified,
             request,
             events[at],
             events[at + 1],
@@ -243,15 +255,16 @@ pub fn act_each<'a>(
     unlocked: &mut RankSet,
     readers: SetsMut,
     writers: SetsMut,
+    certified: &mut ObjectMarks,
     request: &mut JobRequests,
     events: &[u8],
     answers: &mut [u32],
 ) -> usize
     ensures number { λ r. ⌜ r ≡ eventCount (now (events .entry)) (now (answers .entry)) ⌝ }
-    ensures answers { λ r. ⌜ now (answers .exit) ≡ answersTo (stateOf counts (now («processor_of» .entry)) (now («may_read» .entry)) (now («may_write» .entry)) (now (active .entry)) (now (unlocked .entry)) (now (readers .entry)) (now (writers .entry)) (now (request .entry))) (wholeEvents (now (events .entry)) (now (answers .entry)))
+    ensures answers { λ r. ⌜ now (answers .exit) ≡ answersTo (stateOf counts (now («processor_of» .entry)) (now («may_read» .entry)) (now («may_write» .entry)) (now (active .entry)) (now (unlocked .entry)) (now (readers .entry)) (now (writers .entry)) (now (certified .entry)) (now (request .entry))) (wholeEvents (now (events .entry)) (now (answers .entry)))
         ++ drop (eventCount (now (events .entry)) (now (answers .entry))) (now (answers .entry)) ⌝ }
-    ensures state { λ r. ⌜ stateOf counts (now («processor_of» .entry)) (now («may_read» .entry)) (now («may_write» .entry)) (now (active .exit)) (now (unlocked .exit)) (now (readers .exit)) (now (writers .exit)) (now (request .exit))
-        ≡ stateAfter (stateOf counts (now («processor_of» .entry)) (now («may_read» .entry)) (now («may_write» .entry)) (now (active .entry)) (now (unlocked .entry)) (now (readers .entry)) (now (writers .entry)) (now (request .entry))) (wholeEvents (now (events .entry)) (now (answers .entry))) ⌝ }
+    ensures state { λ r. ⌜ stateOf counts (now («processor_of» .entry)) (now («may_read» .entry)) (now («may_write» .entry)) (now (active .exit)) (now (unlocked .exit)) (now (readers .exit)) (now (writers .exit)) (now (certified .exit)) (now (request .exit))
+        ≡ stateAfter (stateOf counts (now («processor_of» .entry)) (now («may_read» .entry)) (now («may_write» .entry)) (now (active .entry)) (now (unlocked .entry)) (now (readers .entry)) (now (writers .entry)) (now (certified .entry)) (now (request .entry))) (wholeEvents (now (events .entry)) (now (answers .entry))) ⌝ }
 {
     let count = smaller(events.len() / 3, answers.len());
     let used = 3 * count;
@@ -264,6 +277,7 @@ pub fn act_each<'a>(
         *unlocked,
         readers,
         writers,
+        certified,
         request,
     );
     answer_each(
@@ -276,6 +290,7 @@ pub fn act_each<'a>(
         unlocked,
         readers,
         writers,
+        certified,
         request,
         &events[..used],
         answers,
@@ -291,6 +306,7 @@ pub fn event(state: State, kind: u8, rank: u8, object: u8) -> Outcome
     let mut unlocked = state.unlocked;
     let mut readers = state.readers;
     let mut writers = state.writers;
+    let mut certified = state.certified;
     let mut request = state.request;
     let answer = act(
         state.counts,
@@ -301,6 +317,7 @@ pub fn event(state: State, kind: u8, rank: u8, object: u8) -> Outcome
         &mut unlocked,
         &mut readers,
         &mut writers,
+        &mut certified,
         &mut request,
         kind,
         rank,
@@ -311,6 +328,7 @@ pub fn event(state: State, kind: u8, rank: u8, object: u8) -> Outcome
     next.unlocked = unlocked;
     next.readers = readers;
     next.writers = writers;
+    next.certified = certified;
     next.request = request;
     Outcome {
         answer,

@@ -20,6 +20,7 @@ use ranks::RankSet;
 use state::Counts;
 use state::JobProcessors;
 use state::JobRequests;
+use state::ObjectMarks;
 use state::Sets;
 use state::State;
 use state::fits_sized;
@@ -44,6 +45,7 @@ pub fn page(state: State, buf: &mut [u8]) -> PageAnswer
         state.unlocked,
         &state.readers,
         &state.writers,
+        &state.certified,
         &state.request,
         buf,
     )
@@ -59,13 +61,14 @@ pub fn write_page<'a>(
     unlocked: RankSet,
     readers: Sets<'a>,
     writers: Sets<'a>,
+    certified: &'a ObjectMarks,
     request: &'a JobRequests,
     buf: &mut [u8],
 ) -> PageAnswer
     ensures { λ r. ⌜ (pageReply r ≡ P.writePage (stateOf counts (now («processor_of» .entry)) (now («may_read» .entry)) (now («may_write» .entry))
-        active unlocked (now (readers .entry)) (now (writers .entry)) (now (request .entry))) (now (buf .entry)))
+        active unlocked (now (readers .entry)) (now (writers .entry)) (now (certified .entry)) (now (request .entry))) (now (buf .entry)))
         × (now (buf .exit) ≡ P.pageWritten (stateOf counts (now («processor_of» .entry)) (now («may_read» .entry)) (now («may_write» .entry))
-        active unlocked (now (readers .entry)) (now (writers .entry)) (now (request .entry))) (now (buf .entry))) ⌝ }
+        active unlocked (now (readers .entry)) (now (writers .entry)) (now (certified .entry)) (now (request .entry))) (now (buf .entry))) ⌝ }
 {
     let well = fits_sized(
         counts,
@@ -76,6 +79,7 @@ pub fn write_page<'a>(
         unlocked,
         readers,
         writers,
+        certified,
         request,
     );
     if !well {
@@ -94,6 +98,7 @@ pub fn write_page<'a>(
         active,
         readers,
         writers,
+        certified,
         request,
     );
     PageAnswer::Length(length)
@@ -109,14 +114,15 @@ fn lay_page<'a>(
     active: RankSet,
     readers: Sets<'a>,
     writers: Sets<'a>,
+    certified: &'a ObjectMarks,
     request: &'a JobRequests,
 )
     requires { ⌜ Within counts × ProcessorsFit counts (now «processor_of»)
-        × (length (P.page (runState counts (now «processor_of») active (now «may_read») (now «may_write») (now readers) (now writers) (now request))) ≤ length (now buf)) ⌝ }
+        × (length (P.page (runState counts (now «processor_of») active (now «may_read») (now «may_write») (now readers) (now writers) (now certified) (now request))) ≤ length (now buf)) ⌝ }
     ensures { λ _. ⌜ now (buf .exit) ≡ atFront (P.page (runState counts (now («processor_of» .entry)) active (now («may_read» .entry)) (now («may_write» .entry))
-        (now (readers .entry)) (now (writers .entry)) (now (request .entry)))) (now (buf .entry)) ⌝ }
+        (now (readers .entry)) (now (writers .entry)) (now (certified .entry)) (now (request .entry)))) (now (buf .entry)) ⌝ }
 {
-    let named = named_locks(counts, may_read, may_write, readers, writers, request);
+    let named = named_locks(counts, may_read, may_write, readers, writers, certified, request);
     let running = running_ranks(counts, &named, processor_of, active, request);
     lay_lines(buf, counts, &named, &running, processor_of, active, request);
 }

@@ -42,6 +42,7 @@ pub fn inherited_rank(state: State, rank: u8) -> RankAnswer
         state.unlocked,
         &state.readers,
         &state.writers,
+        &state.certified,
         &state.request,
         rank,
     )
@@ -60,6 +61,7 @@ pub fn named_lock(state: State, rank: u8) -> NamedAnswer
         state.unlocked,
         &state.readers,
         &state.writers,
+        &state.certified,
         &state.request,
         rank,
     )
@@ -78,6 +80,7 @@ pub fn ceilings(state: State, object: u8) -> CeilingsAnswer
         state.unlocked,
         &state.readers,
         &state.writers,
+        &state.certified,
         &state.request,
         object,
     )
@@ -96,6 +99,7 @@ pub fn running(state: State, processor: u8) -> RankAnswer
         state.unlocked,
         &state.readers,
         &state.writers,
+        &state.certified,
         &state.request,
         processor,
     )

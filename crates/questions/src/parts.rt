@@ -13,6 +13,7 @@ use refusals::set_of;
 use state::Counts;
 use state::JobProcessors;
 use state::JobRequests;
+use state::ObjectMarks;
 use state::Sets;
 use state::fits;
 
@@ -26,11 +27,12 @@ pub fn ask_inherited_rank<'a>(
     unlocked: RankSet,
     readers: Sets<'a>,
     writers: Sets<'a>,
+    certified: &'a ObjectMarks,
     request: &'a JobRequests,
     rank: u8,
 ) -> RankAnswer
     ensures { λ r. ⌜ r ≡ Q.askInheritedRank (stateOf counts (now («processor_of» .entry)) (now («may_read» .entry)) (now («may_write» .entry))
-        active unlocked (now (readers .entry)) (now (writers .entry)) (now (request .entry))) rank ⌝ }
+        active unlocked (now (readers .entry)) (now (writers .entry)) (now (certified .entry)) (now (request .entry))) rank ⌝ }
 {
     let well = fits(
         counts,
@@ -41,6 +43,7 @@ pub fn ask_inherited_rank<'a>(
         unlocked,
         readers,
         writers,
+        certified,
         request,
     );
     let number = job_refusal(well, counts.jobs, active, rank);
@@ -53,6 +56,7 @@ pub fn ask_inherited_rank<'a>(
         may_write,
         readers,
         writers,
+        certified,
         request,
         rank,
     ))
@@ -68,11 +72,12 @@ pub fn ask_named_lock<'a>(
     unlocked: RankSet,
     readers: Sets<'a>,
     writers: Sets<'a>,
+    certified: &'a ObjectMarks,
     request: &'a JobRequests,
     rank: u8,
 ) -> NamedAnswer
     ensures { λ r. ⌜ r ≡ Q.askNamedLock (stateOf counts (now («processor_of» .entry)) (now («may_read» .entry)) (now («may_write» .entry))
-        active unlocked (now (readers .entry)) (now (writers .entry)) (now (request .entry))) rank ⌝ }
+        active unlocked (now (readers .entry)) (now (writers .entry)) (now (certified .entry)) (now (request .entry))) rank ⌝ }
 {
     let well = fits(
         counts,
@@ -83,6 +88,7 @@ pub fn ask_named_lock<'a>(
         unlocked,
         readers,
         writers,
+        certified,
         request,
     );
     let number = job_refusal(well, counts.jobs, active, rank);
@@ -95,6 +101,7 @@ pub fn ask_named_lock<'a>(
         may_write,
         readers,
         writers,
+        certified,
         request[(rank - 1) as usize],
         rank,
     );
@@ -113,11 +120,12 @@ pub fn ask_ceilings<'a>(
     unlocked: RankSet,
     readers: Sets<'a>,
     writers: Sets<'a>,
+    certified: &'a ObjectMarks,
     request: &'a JobRequests,
     object: u8,
 ) -> CeilingsAnswer
     ensures { λ r. ⌜ r ≡ Q.askCeilings (stateOf counts (now («processor_of» .entry)) (now («may_read» .entry)) (now («may_write» .entry))
-        active unlocked (now (readers .entry)) (now (writers .entry)) (now (request .entry))) object ⌝ }
+        active unlocked (now (readers .entry)) (now (writers .entry)) (now (certified .entry)) (now (request .entry))) object ⌝ }
 {
     let well = fits(
         counts,
@@ -128,6 +136,7 @@ pub fn ask_ceilings<'a>(
         unlocked,
         readers,
         writers,
+        certified,
         request,
     );
     let number = object_refusal(well, counts.objects, object);
@@ -152,11 +161,12 @@ pub fn ask_running<'a>(
     unlocked: RankSet,
     readers: Sets<'a>,
     writers: Sets<'a>,
+    certified: &'a ObjectMarks,
     request: &'a JobRequests,
     processor: u8,
 ) -> RankAnswer
     ensures { λ r. ⌜ r ≡ Q.askRunning (stateOf counts (now («processor_of» .entry)) (now («may_read» .entry)) (now («may_write» .entry))
-        active unlocked (now (readers .entry)) (now (writers .entry)) (now (request .entry))) processor ⌝ }
+        active unlocked (now (readers .entry)) (now (writers .entry)) (now (certified .entry)) (now (request .entry))) processor ⌝ }
 {
     let well = fits(
         counts,
@@ -167,6 +177,7 @@ pub fn ask_running<'a>(
         unlocked,
         readers,
         writers,
+        certified,
         request,
     );
     let number = processor_refusal(well, counts.processors, processor);
@@ -181,6 +192,7 @@ pub fn ask_running<'a>(
         may_write,
         readers,
         writers,
+        certified,
         request,
         processor,
     ))

@@ -8,6 +8,7 @@ use Prim.Native.Nat.{ℕ, zero, suc, _+_, _^_, _≤_, _<_, zero-le}
 use native.Mathlib.Nat.{zero-lt-suc, lt-of-not-le, le-antisymm, le-trans, eq-zero-or-pos}
 use native.Mathlib.Numerals.{add-one}
 use native.Mathlib.Omega.{arith}
+use native.Mathlib.Decide.{ℕ-discrete, decLe}
 use lib.Pow.{pow-lt}
 use lib.Dec.{eqb}
 use lib.Bits.{bitAnd, bitOr, bitXor, differ, and-le-l, or-lt, xor-lt, xor-self}
@@ -159,6 +160,20 @@ pub first-is : (k set f : ℕ) → member set f ≡ true → ((r : ℕ) → memb
 first-is k set f m least h =
     let up : first k set ≤ f = first-least k set f m in
     le-antisymm up (least (first k set) (first-member k set (le-trans up h)))
+
+-- without its first member a set has a later one, or none
+pub first-without : (k set : ℕ) → first k set ≤ k → first k set < first k (without set (first k set))
+first-without k set h = go (decLe (first k rest) k)
+  where
+    rest : ℕ
+    rest = without set (first k set)
+
+    go : Dec (first k rest ≤ k) → first k set < first k rest
+    go (no d) = omega arith
+    go (yes l) = elim (ℕ-discrete (first k set) (first k rest)) [
+      | yes e ↦ absurd (clash (first-member k rest l) (ap (member rest) (sym e) ∙ member-without-same set (first k set)))
+      | no d ↦ (let there = sym (member-without-other set (first k set) (first k rest) d) ∙ first-member k rest l in omega (arith, first-least k set (first k rest) there))
+    ]
 
 -- ---- subsets, sets with no member in common, and sets with no two members
 

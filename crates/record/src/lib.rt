@@ -16,6 +16,7 @@ use ranks::RankSet;
 use state::Counts;
 use state::JobProcessors;
 use state::JobRequests;
+use state::ObjectMarks;
 use state::Sets;
 use state::SetsMut;
 use state::fits_sized;
@@ -31,6 +32,7 @@ fn lay_answered<'a>(
     unlocked: &mut RankSet,
     readers: SetsMut,
     writers: SetsMut,
+    certified: &mut ObjectMarks,
     request: &mut JobRequests,
     buf: &mut [u8],
     at: usize,
@@ -39,11 +41,11 @@ fn lay_answered<'a>(
     rank: u8,
     object: u8,
 ) -> usize
-    requires { ⌜ (well ≡ wellFormed (stateOf counts (now «processor_of») (now «may_read») (now «may_write») (now active) (now unlocked) (now readers) (now writers) (now request))) × (at + 45 ≤ length (now buf)) ⌝ }
-    ensures { λ r. ⌜ (stateOf counts (now («processor_of» .entry)) (now («may_read» .entry)) (now («may_write» .entry)) (now (active .exit)) (now (unlocked .exit)) (now (readers .exit)) (now (writers .exit)) (now (request .exit))
-        ≡ step (stateOf counts (now («processor_of» .entry)) (now («may_read» .entry)) (now («may_write» .entry)) (now (active .entry)) (now (unlocked .entry)) (now (readers .entry)) (now (writers .entry)) (now (request .entry))) kind rank object .state)
+    requires { ⌜ (well ≡ wellFormed (stateOf counts (now «processor_of») (now «may_read») (now «may_write») (now active) (now unlocked) (now readers) (now writers) (now certified) (now request))) × (at + 45 ≤ length (now buf)) ⌝ }
+    ensures { λ r. ⌜ (stateOf counts (now («processor_of» .entry)) (now («may_read» .entry)) (now («may_write» .entry)) (now (active .exit)) (now (unlocked .exit)) (now (readers .exit)) (now (writers .exit)) (now (certified .exit)) (now (request .exit))
+        ≡ step (stateOf counts (now («processor_of» .entry)) (now («may_read» .entry)) (now («may_write» .entry)) (now (active .entry)) (now (unlocked .entry)) (now (readers .entry)) (now (writers .entry)) (now (certified .entry)) (now (request .entry))) kind rank object .state)
         × Laid (now (buf .entry)) (now (buf .exit)) at r 45 (eventLine number kind rank object
-        (step (stateOf counts (now («processor_of» .entry)) (now («may_read» .entry)) (now («may_write» .entry)) (now (active .entry)) (now (unlocked .entry)) (now (readers .entry)) (now (writers .entry)) (now (request .entry))) kind rank object .answer)) ⌝ }
+        (step (stateOf counts (now («processor_of» .entry)) (now («may_read» .entry)) (now («may_write» .entry)) (now (active .entry)) (now (unlocked .entry)) (now (readers .entry)) (now (writers .entry)) (now (certified .entry)) (now (request .entry))) kind rank object .answer)) ⌝ }
 {
     let answer = act_known(
         well,
@@ -55,6 +57,7 @@ fn lay_answered<'a>(
         unlocked,
         readers,
         writers,
+        certified,
         request,
         kind,
         rank,
@@ -75,16 +78,17 @@ fn lay_each<'a>(
     unlocked: &mut RankSet,
     readers: SetsMut,
     writers: SetsMut,
+    certified: &mut ObjectMarks,
     request: &mut JobRequests,
     buf: &mut [u8],
     events: u64,
     bytes: &[u8],
 ) -> usize
-    requires { ⌜ Tested well (stateOf counts (now «processor_of») (now «may_read») (now «may_write») (now active) (now unlocked) (now readers) (now writers) (now request)) × (15 * length (now bytes) ≤ length (now buf)) × (events + length (now bytes) / 3 < 2 ^ 64) ⌝ }
-    ensures { λ r. ⌜ (stateOf counts (now («processor_of» .entry)) (now («may_read» .entry)) (now («may_write» .entry)) (now (active .exit)) (now (unlocked .exit)) (now (readers .exit)) (now (writers .exit)) (now (request .exit))
-        ≡ stateAfter (stateOf counts (now («processor_of» .entry)) (now («may_read» .entry)) (now («may_write» .entry)) (now (active .entry)) (now (unlocked .entry)) (now (readers .entry)) (now (writers .entry)) (now (request .entry))) (now (bytes .entry)))
+    requires { ⌜ Tested well (stateOf counts (now «processor_of») (now «may_read») (now «may_write») (now active) (now unlocked) (now readers) (now writers) (now certified) (now request)) × (15 * length (now bytes) ≤ length (now buf)) × (events + length (now bytes) / 3 < 2 ^ 64) ⌝ }
+    ensures { λ r. ⌜ (stateOf counts (now («processor_of» .entry)) (now («may_read» .entry)) (now («may_write» .entry)) (now (active .exit)) (now (unlocked .exit)) (now (readers .exit)) (now (writers .exit)) (now (certified .exit)) (now (request .exit))
+        ≡ stateAfter (stateOf counts (now («processor_of» .entry)) (now («may_read» .entry)) (now («may_write» .entry)) (now (active .entry)) (now (unlocked .entry)) (now (readers .entry)) (now (writers .entry)) (now (certified .entry)) (now (request .entry))) (now (bytes .entry)))
         × Laid (now (buf .entry)) (now (buf .exit)) 0 r (15 * length (now (bytes .entry)))
-        (eventLines (stateOf counts (now («processor_of» .entry)) (now («may_read» .entry)) (now («may_write» .entry)) (now (active .entry)) (now (unlocked .entry)) (now (readers .entry)) (now (writers .entry)) (now (request .entry))) events (now (bytes .entry))) ⌝ }
+        (eventLines (stateOf counts (now («processor_of» .entry)) (now («may_read» .entry)) (now («may_write» .entry)) (now (active .entry)) (now (unlocked .entry)) (now (readers .entry)) (now (writers .entry)) (now (certified .entry)) (now (request .entry))) events (now (bytes .entry))) ⌝ }
 {
     let mut at = 0;
     let mut end = 0;
@@ -101,6 +105,7 @@ fn lay_each<'a>(
             unlocked,
             readers,
             writers,
+            certified,
             request,
             buf,
             end,
@@ -125,16 +130,17 @@ pub fn lay_events<'a>(
     unlocked: &mut RankSet,
     readers: SetsMut,
     writers: SetsMut,
+    certified: &mut ObjectMarks,
     request: &mut JobRequests,
     buf: &mut [u8],
     events: u64,
     bytes: &[u8],
 ) -> usize
     requires { ⌜ (15 * length (now bytes) ≤ length (now buf)) × (events + length (now bytes) / 3 < 2 ^ 64) ⌝ }
-    ensures { λ r. ⌜ (stateOf counts (now («processor_of» .entry)) (now («may_read» .entry)) (now («may_write» .entry)) (now (active .exit)) (now (unlocked .exit)) (now (readers .exit)) (now (writers .exit)) (now (request .exit))
-        ≡ stateAfter (stateOf counts (now («processor_of» .entry)) (now («may_read» .entry)) (now («may_write» .entry)) (now (active .entry)) (now (unlocked .entry)) (now (readers .entry)) (now (writers .entry)) (now (request .entry))) (now (bytes .entry)))
+    ensures { λ r. ⌜ (stateOf counts (now («processor_of» .entry)) (now («may_read» .entry)) (now («may_write» .entry)) (now (active .exit)) (now (unlocked .exit)) (now (readers .exit)) (now (writers .exit)) (now (certified .exit)) (now (request .exit))
+        ≡ stateAfter (stateOf counts (now («processor_of» .entry)) (now («may_read» .entry)) (now («may_write» .entry)) (now (active .entry)) (now (unlocked .entry)) (now (readers .entry)) (now (writers .entry)) (now (certified .entry)) (now (request .entry))) (now (bytes .entry)))
         × Laid (now (buf .entry)) (now (buf .exit)) 0 r (15 * length (now (bytes .entry)))
-        (eventLines (stateOf counts (now («processor_of» .entry)) (now («may_read» .entry)) (now («may_write» .entry)) (now (active .entry)) (now (unlocked .entry)) (now (readers .entry)) (now (writers .entry)) (now (request .entry))) events (now (bytes .entry))) ⌝ }
+        (eventLines (stateOf counts (now («processor_of» .entry)) (now («may_read» .entry)) (now («may_write» .entry)) (now (active .entry)) (now (unlocked .entry)) (now (readers .entry)) (now (writers .entry)) (now (certified .entry)) (now (request .entry))) events (now (bytes .entry))) ⌝ }
 {
     let well = fits_sized(
         counts,
@@ -145,6 +151,7 @@ pub fn lay_events<'a>(
         *unlocked,
         readers,
         writers,
+        certified,
         request,
     );
     lay_each(
@@ -157,6 +164,7 @@ pub fn lay_events<'a>(
         unlocked,
         readers,
         writers,
+        certified,
         request,
         buf,
         events,

@@ -12,8 +12,8 @@ use Rattle.basics.specs.Loops.{every-at}
 use Rattle.basics.specs.Arrays.{at}
 use Rattle.state.specs.declared.Counts.{Counts}
 use Rattle.state.specs.declared.State.{State}
-use Rattle.state.specs.State.{mostJobs, mostObjects, isRank, isObject, isActive, hasUnlocked, mayLock, holdsAlready, requestOf, objectOfRequest, requestedMode, requestedObject}
-use Rattle.state.specs.WellFormed.{mayAwait, waitFits, waitsFit, wellFormed}
+use Rattle.state.specs.State.{mostJobs, mostObjects, strongest, isRank, isObject, isActive, hasUnlocked, mayLock, holdsAlready, requestOf, objectOfRequest, requestedMode, requestedObject}
+use Rattle.state.specs.WellFormed.{holdsBefore, mayAwait, waitFits, waitsFit, wellFormed}
 use Rattle.state.specs.Clauses.{clauses, counts-within}
 use Rattle.refusals.specs.Refusals.{objectAllowed, eventRefusal, jobRefusal, objectRefusal, processorRefusal}
 use Rattle.refusals.specs.AcceptedEvent.{event-not-refused}
@@ -29,12 +29,15 @@ pub record InRange (counts : Counts) (requests : List ℕ) : Type 0 where
 
 requested-object : (s : State) (m r o : ℕ) → mayAwait s m r o ≡ true → isObject s o ≡ true
 requested-object s m r o e =
-    let two = between 1 2 m && isObject s o in
+    let one = between 1 (strongest (s .counts .version)) m in
+    let two = one && isObject s o in
     let three = two && isActive s r in
     let four = three && not (hasUnlocked s r) in
     let five = four && mayLock s m r o in
-    and-right (between 1 2 m) (isObject s o)
-    (and-left two (isActive s r) (and-left three (not (hasUnlocked s r)) (and-left four (mayLock s m r o) (and-left five (not (holdsAlready s m r o)) e))))
+    let six = five && not (holdsAlready s m r o) in
+    and-right one (isObject s o)
+    (and-left two (isActive s r) (and-left three (not (hasUnlocked s r)) (and-left four (mayLock s m r o)
+    (and-left five (not (holdsAlready s m r o)) (and-left six (holdsBefore s m r o) e)))))
 
 pub well-requests : (s : State) → wellFormed s ≡ true → RequestsFit (s .request)
 unfolding waitsFit

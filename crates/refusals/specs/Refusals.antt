@@ -1,42 +1,56 @@
--- The refusals 8 to 19 and 21 of events and questions (01, "Refusals by who can cause them"): "Order: 8, then as numbered."
+-- The refusals 8 to 19, 21, 24 and 25 of events and questions (01, "Refusals by who can cause them"; 02, CR 1 and CR 6): "Order: 8, then as numbered.", with
+-- 25 after 14, 24 after 17 and 21 after 18.
 -- Assumes nothing.
 use Prim.Native.Nat.{ℕ, _-_}
 use mathlib.Core.Bool.{Bool, not, _&&_, _||_}
 use lib.Dec.{eqb, ltb}
 use Rattle.basics.specs.Choice.{if_then_else_, _if_else_, between}
+use Rattle.basics.specs.Loops.{every}
 use Rattle.state.specs.declared.State.{State}
 use Rattle.ranks.specs.Ranks.{member}
-use Rattle.state.specs.State.{write, isRank, isObject, mayLock, holds, holdsAlready, holdsAny, isActive, isWaiting, hasUnlocked}
+use Rattle.state.specs.State.{write, certify, sharesWithNone, isRank, isObject, mayLock, holds, holdsAlready, holdsAny, isActive, isWaiting, hasUnlocked}
 use Rattle.state.specs.WellFormed.{wellFormed}
 
--- kinds 2 read-lock and 3 write-lock ask for a lock
-abbrev pub isRequest : ℕ → Bool
-isRequest k = between 2 3 k
+-- "9 kind not 1 to" 7; of event 7 "on a version 1 table it is refused by 9"
+abbrev pub isKind : ℕ → ℕ → Bool
+isKind version k = between 1 7 k && not (eqb k 7 && eqb version 1)
 
--- kind 2 asks in mode 1, kind 3 in mode 2
+-- kinds 2 read-lock, 3 write-lock and 7 certify ask for a lock
+abbrev pub isRequest : ℕ → Bool
+isRequest k = between 2 3 k || eqb k 7
+
+-- kind 2 asks in mode 1, kind 3 in mode 2, kind 7 in mode 3
 abbrev pub modeOf : ℕ → ℕ
-modeOf k = k - 1
+modeOf k = if eqb k 7 then certify else k - 1
+
+-- each write lock of r is one that shares with none: in version 2, "a write lock not certified" is none of them
+unfoldable pub allCertified : State → ℕ → Bool
+allCertified s r = every (s .counts .objects) (λ o. not (holds s write r o) || sharesWithNone s o)
 
 -- "11 object out of range, or not 0 for kinds 1, 5, 6": what kind k may carry
 abbrev pub objectAllowed : State → ℕ → ℕ → Bool
 objectAllowed s k o = if isRequest k || eqb k 4 then isObject s o else eqb o 0
 
--- "9 kind not 1 to 6; 10 rank not 1 to the job count; 11 object out of range, or not 0 for kinds 1, 5, 6.
+-- 9 above; "10 rank not 1 to the job count; 11 object out of range, or not 0 for kinds 1, 5, 6.
 -- 12 start of an active job; 13 another kind, or a question, for an idle job; 14 kinds 2 to 5 for a waiting job.
 -- 15 lock after an unlock; 16 lock whose right is not declared; 17 that lock or the write lock already held; 18 unlock of a lock not held."
--- 02, CR 1: "Refused: 21, unlock of a write lock, after 18."
+-- 02, CR 1: "Refused: 21, unlock of a write lock, after 18." 02, CR 6: "A certified object .. like a write lock, can't be unlocked early (21)";
+-- "Refusals 14 and 15 cover event 7 too, 16 there means the right to write"; "Refused: 24, certify without the write lock, after 17;
+-- 25, on a version 2 table finish with a write lock not certified, after 14."
 -- Of an event in a well-formed state, 0 if it is accepted.
 unfoldable pub eventRefusal : State → ℕ → ℕ → ℕ → ℕ
 eventRefusal s k r o =
-    9 if not (between 1 6 k) else
+    9 if not (isKind (s .counts .version) k) else
     10 if not (isRank s r) else
     11 if not (objectAllowed s k o) else
     12 if eqb k 1 && isActive s r else
     13 if not (eqb k 1) && not (isActive s r) else
     14 if (isRequest k || between 4 5 k) && isWaiting s r else
+    25 if eqb k 5 && not (allCertified s r) else
     15 if isRequest k && hasUnlocked s r else
     16 if isRequest k && not (mayLock s (modeOf k) r o) else
     17 if isRequest k && holdsAlready s (modeOf k) r o else
+    24 if eqb k 7 && not (holds s write r o) else
     18 if eqb k 4 && not (holdsAny s r o) else
     21 if eqb k 4 && holds s write r o else
     0

@@ -1,19 +1,24 @@
 // The refusals of events and questions, on the parts of a state. A refusal is its number, and 0 is none.
 ghost use mathlib.Core.Path.{_≡_};
-ghost use mathlib.Core.Bool.{true, not};
+ghost use mathlib.Core.Bool.{true, not, _&&_};
 ghost use mathlib.Core.List.{List};
-ghost use Prim.Native.Nat.{ℕ, _≤_};
+ghost use Prim.Native.Nat.{ℕ, _+_, _-_, _≤_};
 ghost use lib.Dec.{eqb};
 ghost use Rattle.basics.specs.Choice.{_if_else_};
 ghost use Rattle.basics.specs.Arrays.{at};
+ghost use Rattle.basics.specs.Loops.{every};
 ghost use Rattle.state.specs.State.{mostJobs, mostObjects, stateOf};
 ghost use Rattle.refusals.specs.Refusals as R;
 ghost use Rattle.refusals.specs.Parts as P;
 use ranks::RankSet;
 use state::Counts;
+use basics::smaller;
 use state::JobRequests;
+use state::ObjectMarks;
 use state::Sets;
+use state::is_marked;
 use state::of_mode;
+use state::union_of;
 use state::within;
 
 // The number, if the test holds; else the rest.
@@ -52,8 +57,8 @@ fn is_waiting(request: &JobRequests, rank: u8) -> bool
 // 10 to 12, of a start.
 pub fn start_refusal(counts: Counts, active: RankSet, rank: u8, object: u8) -> u8
     requires { ⌜ counts .jobs ≤ mostJobs ⌝ }
-    ensures { λ r. ⌜ ((u : ℕ) (ps mr mw rs ws q : List ℕ) →
-        r ≡ R.eventRefusal (stateOf counts ps mr mw active u rs ws q) 1 rank object) ⌝ }
+    ensures { λ r. ⌜ ((u : ℕ) (ps mr mw rs ws cs q : List ℕ) →
+        r ≡ R.eventRefusal (stateOf counts ps mr mw active u rs ws cs q) 1 rank object) ⌝ }
 {
     if !within(1, counts.jobs, rank) {
         return 10;
@@ -101,9 +106,9 @@ pub fn lock_refusal<'a>(
     object: u8,
 ) -> u8
     requires { ⌜ (counts .jobs ≤ mostJobs) × (counts .objects ≤ mostObjects) × (2 ≤ kind) × (kind ≤ 3) ⌝ }
-    ensures { λ r. ⌜ ((ps : List ℕ) →
+    ensures { λ r. ⌜ ((ps cs : List ℕ) →
         r ≡ R.eventRefusal (stateOf counts ps (now («may_read» .entry)) (now («may_write» .entry)) active unlocked
-        (now (readers .entry)) (now (writers .entry)) (now (request .entry))) kind rank object) ⌝ }
+        (now (readers .entry)) (now (writers .entry)) cs (now (request .entry))) kind rank object) ⌝ }
 {
     if !within(1, counts.jobs, rank) {
         return 10;
@@ -138,8 +143,8 @@ pub fn unlock_refusal<'a>(
     object: u8,
 ) -> u8
     requires { ⌜ (counts .jobs ≤ mostJobs) × (counts .objects ≤ mostObjects) ⌝ }
-    ensures { λ r. ⌜ ((u : ℕ) (ps mr mw : List ℕ) →
-        r ≡ R.eventRefusal (stateOf counts ps mr mw active u (now (readers .entry)) (now (writers .entry)) (now (request .entry))) 4 rank object) ⌝ }
+    ensures { λ r. ⌜ ((u : ℕ) (ps mr mw cs : List ℕ) →
+        r ≡ R.eventRefusal (stateOf counts ps mr mw active u (now (readers .entry)) (now (writers .entry)) cs (now (request .entry))) 4 rank object) ⌝ }
 {
     if !within(1, counts.jobs, rank) {
         return 10;
@@ -157,18 +162,127 @@ pub fn unlock_refusal<'a>(
     )
 }
 
-// 10, 11, 13 and 14, of kind 5, a finish, or kind 6, an abandonment.
-pub fn finish_refusal(
+// 9 to 11, 13 to 17 and 24, of a request to certify, kind 7.
+pub fn certify_refusal<'a>(
+    counts: Counts,
+    may_write: Sets<'a>,
+    active: RankSet,
+    unlocked: RankSet,
+    writers: Sets<'a>,
+    certified: &'a ObjectMarks,
+    request: &'a JobRequests,
+    rank: u8,
+    object: u8,
+) -> u8
+    requires { ⌜ (counts .jobs ≤ mostJobs) × (counts .objects ≤ mostObjects) ⌝ }
+    ensures { λ r. ⌜ ((ps mr rs : List ℕ) →
+        r ≡ R.eventRefusal (stateOf counts ps mr (now («may_write» .entry)) active unlocked rs (now (writers .entry)) (now (certified .entry)) (now (request .entry))) 7 rank object) ⌝ }
+{
+    if counts.version == 1 {
+        return 9;
+    }
+    if !within(1, counts.jobs, rank) {
+        return 10;
+    }
+    if !within(1, counts.objects, object) {
+        return 11;
+    }
+    let written = ranks::contains(set_of(writers, object), rank);
+    let not_written = refused_if(24, !written, 0);
+    let held = refused_if(17, written & is_marked(certified, object), not_written);
+    let right = ranks::contains(set_of(may_write, object), rank);
+    let no_right = refused_if(16, !right, held);
+    job_event_refusal(
+        ranks::contains(active, rank),
+        is_waiting(request, rank),
+        refused_if(15, ranks::contains(unlocked, rank), no_right),
+    )
+}
+
+// Whether each object behind the first so many, up to the last, that the rank writes is certified.
+fn certified_between<'a>(
+    writers: Sets<'a>,
+    certified: &'a ObjectMarks,
+    from: usize,
+    last: usize,
+    rank: u8,
+) -> bool
+    requires { ⌜ (from ≤ last) × (last ≤ mostObjects) × (1 ≤ rank) × (rank ≤ mostJobs) ⌝ }
+    ensures { λ r. ⌜ r ≡ every (last - from) (λ k. P.writtenWell (now (writers .entry)) (now (certified .entry)) rank (from + k)) ⌝ }
+{
+    let mut i = from;
+    while i < last {
+        let written = ranks::contains(writers[i], rank);
+        i += 1;
+        if written & !is_marked(certified, i as u8) {
+            return false;
+        }
+    }
+    true
+}
+
+// Whether each of so many objects that the rank writes is certified. The writers of eight are looked at together, and one by one only where the rank is among
+// them.
+fn all_certified<'a>(
+    objects: u8,
+    writers: Sets<'a>,
+    certified: &'a ObjectMarks,
+    rank: u8,
+) -> bool
+    requires { ⌜ (objects ≤ mostObjects) × (1 ≤ rank) × (rank ≤ mostJobs) ⌝ }
+    ensures { λ r. ⌜ r ≡ every objects (P.writtenWell (now (writers .entry)) (now (certified .entry)) rank) ⌝ }
+{
+    let count = objects as usize;
+    let mut i: usize = 0;
+    while i < count {
+        let together = union_of(writers, i, 8);
+        if ranks::contains(together, rank) {
+            let last = smaller(i + 8, count);
+            if !certified_between(writers, certified, i, last, rank) {
+                return false;
+            }
+        }
+        i += 8;
+    }
+    true
+}
+
+// 25 where the version has certify locks and the rank, at a finish, a write lock that is not certified; else 0.
+fn certify_first<'a>(
+    counts: Counts,
+    writers: Sets<'a>,
+    certified: &'a ObjectMarks,
+    kind: u8,
+    rank: u8,
+) -> u8
+    requires { ⌜ (counts .objects ≤ mostObjects) × (1 ≤ rank) × (rank ≤ mostJobs) ⌝ }
+    ensures { λ r. ⌜ ((a u : ℕ) (ps mr mw rs q : List ℕ) →
+        r ≡ (25 if eqb kind 5 && not (R.allCertified (stateOf counts ps mr mw a u rs (now (writers .entry)) (now (certified .entry)) q) rank) else 0)) ⌝ }
+{
+    if (counts.version == 1) | (kind != 5) {
+        return 0;
+    }
+    refused_if(
+        25,
+        !all_certified(counts.objects, writers, certified, rank),
+        0,
+    )
+}
+
+// 10, 11, 13, 14 and 25, of kind 5, a finish, or kind 6, an abandonment.
+pub fn finish_refusal<'a>(
     counts: Counts,
     active: RankSet,
-    request: &JobRequests,
+    writers: Sets<'a>,
+    certified: &'a ObjectMarks,
+    request: &'a JobRequests,
     kind: u8,
     rank: u8,
     object: u8,
 ) -> u8
-    requires { ⌜ (counts .jobs ≤ mostJobs) × (5 ≤ kind) × (kind ≤ 6) ⌝ }
-    ensures { λ r. ⌜ ((u : ℕ) (ps mr mw rs ws : List ℕ) →
-        r ≡ R.eventRefusal (stateOf counts ps mr mw active u rs ws (now (request .entry))) kind rank object) ⌝ }
+    requires { ⌜ (counts .jobs ≤ mostJobs) × (counts .objects ≤ mostObjects) × (5 ≤ kind) × (kind ≤ 6) ⌝ }
+    ensures { λ r. ⌜ ((u : ℕ) (ps mr mw rs : List ℕ) →
+        r ≡ R.eventRefusal (stateOf counts ps mr mw active u rs (now (writers .entry)) (now (certified .entry)) (now (request .entry))) kind rank object) ⌝ }
 {
     if !within(1, counts.jobs, rank) {
         return 10;
@@ -176,7 +290,7 @@ pub fn finish_refusal(
     let job = job_event_refusal(
         ranks::contains(active, rank),
         (kind == 5) & is_waiting(request, rank),
-        0,
+        certify_first(counts, writers, certified, kind, rank),
     );
     refused_if(11, object != 0, job)
 }

@@ -53,9 +53,9 @@ module _ (m o h p writers ceiling : ℕ) where
 
 -- ---- the search
 
-module _ (counts : Counts) (mayRead mayWrite readers writers request : List ℕ) where
+module _ (counts : Counts) (mayRead mayWrite readers writers certified request : List ℕ) where
   abbrev woken : ℕ → ℕ
-  woken = wakes (waitsState counts mayRead mayWrite readers writers request)
+  woken = wakes (waitsState counts mayRead mayWrite readers writers certified request)
 
   idle : (n : ℕ) → getD request n 0 ≡ 0 → woken (n + 1) ≡ 0
   idle n e = simp (at-next, e)
@@ -63,10 +63,10 @@ module _ (counts : Counts) (mayRead mayWrite readers writers request : List ℕ)
   stopped : (j o : ℕ) → 1 ≤ o → o ≤ counts .objects → passesBelow j (keyAt counts mayRead mayWrite readers writers j o) ≡ false → woken j ≡ 0
   stopped j o p h b =
       let key = keyAt counts mayRead mayWrite readers writers j in
-      let s = waitsState counts mayRead mayWrite readers writers request in
+      let s = waitsState counts mayRead mayWrite readers writers certified request in
       let no : passes s j ≡ false =
       le-ltb j (lowestKey s j / 65536)
-      (omega (arith, ltb-false j (key o / 65536) b, least-le (counts .objects) noKey key o p h, waits-key counts mayRead mayWrite readers writers request j))
+      (omega (arith, ltb-false j (key o / 65536) b, least-le (counts .objects) noKey key o p h, waits-key counts mayRead mayWrite readers writers certified request j))
       in
       go (isWaiting s j) (passes s j) no
     where
@@ -77,9 +77,9 @@ module _ (counts : Counts) (mayRead mayWrite readers writers request : List ℕ)
   let-by : (n : ℕ) → getD request n 0 ≢ 0 → (n + 1 + 1) * 65536 ≤ least (counts .objects) noKey (keyAt counts mayRead mayWrite readers writers (n + 1))
       → woken (n + 1) ≡ n + 1
   let-by n w l =
-      let s = waitsState counts mayRead mayWrite readers writers request in
+      let s = waitsState counts mayRead mayWrite readers writers certified request in
       let pass : passes s (n + 1) ≡ true =
-      lt-ltb (n + 1) (lowestKey s (n + 1) / 65536) (omega (arith, waits-key counts mayRead mayWrite readers writers request (n + 1)))
+      lt-ltb (n + 1) (lowestKey s (n + 1) / 65536) (omega (arith, waits-key counts mayRead mayWrite readers writers certified request (n + 1)))
       in
       let waits : isWaiting s (n + 1) ≡ true = ap (λ (q : ℕ). not (eqb q 0)) (at-next request n) ∙ ap not (ne-eqb (getD request n 0) 0 w) in
       simp (waits, pass)

@@ -18,7 +18,7 @@ use Rattle.rule.specs.GrantingTheorems.{passes-more-urgent}
 pub no-conflict : (s : State) (F : Facts s) (r : ℕ) → 1 ≤ r → r ≤ s .counts .jobs → (m o : ℕ) → RequestFacts s m r o → passes s r ≡ true
     → NoConflict s m r o
 no-conflict s F r low high m o A pass = record {
-  none-alone = λ x d i. omega (arith, meets x d write (inr refl) i, write-any s m r x o (A .right));
+  none-alone = λ none x d i. omega (arith, meets x d write (inr refl) i, write-any s m r x o none (A .right));
   no-writer = λ k x d i. omega (arith, meets x d write (inr refl) i, write-writer s r x o (writable s F r low high m o A k));
   no-reader = λ k x d i. omega (arith, meets x d read (inl refl) i, read-writer s r x o (writable s F r low high m o A k));
 }

@@ -7,7 +7,7 @@ use Rattle.basics.specs.Choice.{if_then_else_, _if_else_}
 use Rattle.basics.specs.Loops.{firstNonzero}
 use Rattle.ranks.specs.Ranks.{member}
 use Rattle.state.specs.declared.State.{State}
-use Rattle.state.specs.State.{write, holders, requestOf, isWaiting}
+use Rattle.state.specs.State.{write, strongest, holders, sharesWithNone, requestOf, isWaiting}
 use Rattle.weights.specs.Weights.{writeCeiling}
 use Rattle.weights.specs.Keys.{noKey, keyWeight, keyHolder, keyObject, lowestKey, oldLowestKey}
 
@@ -36,16 +36,23 @@ namedHolder s j = keyHolder (namedKey s j)
 abbrev pub namedObject : State → ℕ → ℕ
 namedObject s j = keyObject (namedKey s j)
 
--- why a request for o in mode m waits for the lock that h holds on p, whose writers and write ceiling are given: "1 conflict, if the named lock is on
--- the requested object and either is a write; else 3 cap, if it is a read lock whose holder is more urgent than the write ceiling; else 2 ceiling"
-abbrev pub reasonOf : ℕ → ℕ → ℕ → ℕ → ℕ → ℕ → ℕ
-reasonOf m o h p writers ceiling =
-    1 if eqb p o && (eqb m write || member writers h) else
+-- a request in mode m conflicts with a lock on its object that is a read lock or a write lock, which shares with none or not. Version 1: "either is a write".
+-- Version 2: "Conflict, for the reason, follows 004's table 1", where a read request meets a certify lock, a write request a write or certify lock, a certify
+-- request any lock. In both a request in the version's strongest mode meets any lock, and any request a write lock that shares with none.
+abbrev pub conflicts : (version m : ℕ) (written none : Bool) → Bool
+conflicts version m written none = eqb m (strongest version) || (written && (eqb m write || none))
+
+-- why a request for o in mode m waits for the lock that h holds on p, whose writers and write ceiling are given, and whether a write lock there shares with
+-- none: "1 conflict, if the named lock is on the requested object and" conflicts; "else 3 cap, if it is a read lock whose holder is more urgent than the
+-- write ceiling; else 2 ceiling"
+abbrev pub reasonOf : ℕ → ℕ → ℕ → ℕ → ℕ → Bool → ℕ → ℕ → ℕ
+reasonOf version m o h p none writers ceiling =
+    1 if eqb p o && conflicts version m (member writers h) none else
     3 if not (member writers h) && ltb h ceiling else
     2
 
 unfoldable pub reason : State → ℕ → ℕ → ℕ → ℕ → ℕ
-reason s m o h p = reasonOf m o h p (holders s write p) (writeCeiling s p)
+reason s m o h p = reasonOf (s .counts .version) m o h p (sharesWithNone s p) (holders s write p) (writeCeiling s p)
 
 -- j, if it waits and its request passes; else 0
 abbrev pub wakes : State → ℕ → ℕ

@@ -7,19 +7,19 @@ use Prim.Native.Nat.{ℕ}
 use Rattle.basics.specs.Loops.{least}
 use Rattle.state.specs.declared.Counts.{Counts}
 use Rattle.state.specs.declared.State.{State}
-use Rattle.state.specs.State.{stateOf, holders, requestOf, write}
+use Rattle.state.specs.State.{stateOf, holders, sharesWithNone, requestOf, write}
 use Rattle.weights.specs.Weights.{writeCeiling, weight}
 use Rattle.weights.specs.Keys.{noKey, othersKey, objectKey, lowestKey, lowestKeyBy}
 use Rattle.weights.specs.Parts.{locksOf, keyAt, lowest-key-parts, lowest-key-at}
 use Rattle.rule.specs.Granting.{namedKeyOf, namedKey, reasonOf, reason, wakeable}
 
 -- a state with these counts, declarations, locks and requests
-abbrev pub waitsState : Counts → List ℕ → List ℕ → List ℕ → List ℕ → List ℕ → State
-waitsState counts mayRead mayWrite readers writers request = stateOf counts [] mayRead mayWrite 0 0 readers writers request
+abbrev pub waitsState : Counts → List ℕ → List ℕ → List ℕ → List ℕ → List ℕ → List ℕ → State
+waitsState counts mayRead mayWrite readers writers certified request = stateOf counts [] mayRead mayWrite 0 0 readers writers certified request
 
 -- a state's parts
 abbrev pub waitsOf : State → State
-waitsOf s = waitsState (s .counts) (s .«may_read») (s .«may_write») (s .readers) (s .writers) (s .request)
+waitsOf s = waitsState (s .counts) (s .«may_read») (s .«may_write») (s .readers) (s .writers) (s .certified) (s .request)
 
 -- ---- the same question about the parts
 
@@ -31,7 +31,7 @@ pub named-waits-parts : (s : State) (j : ℕ) → namedKey s j ≡ namedKey (wai
 unfolding lowestKeyBy objectKey othersKey weight namedKey
 named-waits-parts s j = refl
 
-pub reason-parts : (s : State) (m o h p : ℕ) → reason s m o h p ≡ reasonOf m o h p (holders s write p) (writeCeiling s p)
+pub reason-parts : (s : State) (m o h p : ℕ) → reason s m o h p ≡ reasonOf (s .counts .version) m o h p (sharesWithNone s p) (holders s write p) (writeCeiling s p)
 unfolding reason
 reason-parts s m o h p = refl
 
@@ -40,7 +40,7 @@ unfolding lowestKeyBy objectKey othersKey weight wakeable
 wakeable-parts s = refl
 
 -- the lowest key of a state with requests, by the arrays
-pub waits-key : (counts : Counts) (mayRead mayWrite readers writers request : List ℕ) (j : ℕ)
-    → lowestKey (waitsState counts mayRead mayWrite readers writers request) j ≡ least (counts .objects) noKey (keyAt counts mayRead mayWrite readers writers j)
-waits-key counts mayRead mayWrite readers writers request j =
-    lowest-key-parts (waitsState counts mayRead mayWrite readers writers request) j ∙ lowest-key-at counts mayRead mayWrite readers writers j
+pub waits-key : (counts : Counts) (mayRead mayWrite readers writers certified request : List ℕ) (j : ℕ)
+    → lowestKey (waitsState counts mayRead mayWrite readers writers certified request) j ≡ least (counts .objects) noKey (keyAt counts mayRead mayWrite readers writers certified j)
+waits-key counts mayRead mayWrite readers writers certified request j =
+    lowest-key-parts (waitsState counts mayRead mayWrite readers writers certified request) j ∙ lowest-key-at counts mayRead mayWrite readers writers certified j

@@ -10,6 +10,7 @@ ghost use Rattle.rule.specs.Parts.{waitsState};
 use ranks::RankSet;
 use state::Counts;
 use state::JobRequests;
+use state::ObjectMarks;
 use state::Sets;
 use weights::NO_KEY;
 use weights::key_at;
@@ -29,34 +30,45 @@ pub fn named_key<'a>(
     may_write: Sets<'a>,
     readers: Sets<'a>,
     writers: Sets<'a>,
+    certified: &'a ObjectMarks,
     request: u16,
     rank: u8,
 ) -> u64
     requires { ⌜ (counts .objects ≤ mostObjects) × (1 ≤ rank) × (rank ≤ mostJobs) ⌝ }
-    ensures { λ r. ⌜ r ≡ G.namedKeyOf request (lowestKey (locksState counts (now («may_read» .entry)) (now («may_write» .entry)) (now (readers .entry)) (now (writers .entry))) rank) rank ⌝ }
+    ensures { λ r. ⌜ r ≡ G.namedKeyOf request (lowestKey (locksState counts (now («may_read» .entry)) (now («may_write» .entry)) (now (readers .entry)) (now (writers .entry)) (now (certified .entry))) rank) rank ⌝ }
 {
     if request == 0 {
         return NO_KEY;
     }
-    let key = lowest_key(counts, may_read, may_write, readers, writers, rank);
+    let key = lowest_key(counts, may_read, may_write, readers, writers, certified, rank);
     if passes(rank, key) { NO_KEY } else { key }
 }
 
-// Why a request for the object in the mode waits for the lock that the holder has on the named object, whose writers
-// and write ceiling are given: 1 conflict, 3 cap, 2 ceiling.
+// Whether a request in the mode conflicts with a lock on its object, which is a write lock or not, and shares the object with none or not.
+fn conflicts(version: u8, mode: u8, written: bool, alone: bool) -> bool
+    requires { ⌜ 1 ≤ mode ⌝ }
+    ensures { λ r. ⌜ r ≡ G.conflicts version mode written alone ⌝ }
+{
+    (mode - 1 == version) | (written & ((mode == 2) | alone))
+}
+
+// Why a request for the object in the mode waits for the lock that the holder has on the named object, whose writers and write ceiling are given, and
+// whether a write lock there shares with none: 1 conflict, 3 cap, 2 ceiling.
 pub fn reason(
+    version: u8,
     mode: u8,
     object: u8,
     holder: u8,
     named: u8,
+    alone: bool,
     writers: RankSet,
     write_ceiling: u16,
 ) -> u8
-    requires { ⌜ (1 ≤ holder) × (holder ≤ mostJobs) ⌝ }
-    ensures { λ r. ⌜ r ≡ G.reasonOf mode object holder named writers «write_ceiling» ⌝ }
+    requires { ⌜ (1 ≤ mode) × (1 ≤ holder) × (holder ≤ mostJobs) ⌝ }
+    ensures { λ r. ⌜ r ≡ G.reasonOf version mode object holder named alone writers «write_ceiling» ⌝ }
 {
     let written = ranks::contains(writers, holder);
-    if (named == object) & ((mode == 2) | written) {
+    if (named == object) & conflicts(version, mode, written, alone) {
         return 1;
     }
     if !written & ((holder as u16) < write_ceiling) {
@@ -72,10 +84,11 @@ pub fn wakeable<'a>(
     may_write: Sets<'a>,
     readers: Sets<'a>,
     writers: Sets<'a>,
+    certified: &'a ObjectMarks,
     request: &'a JobRequests,
 ) -> u8
     requires { ⌜ (counts .jobs ≤ mostJobs) × (counts .objects ≤ mostObjects) ⌝ }
-    ensures { λ r. ⌜ r ≡ G.wakeable (waitsState counts (now («may_read» .entry)) (now («may_write» .entry)) (now (readers .entry)) (now (writers .entry)) (now (request .entry))) ⌝ }
+    ensures { λ r. ⌜ r ≡ G.wakeable (waitsState counts (now («may_read» .entry)) (now («may_write» .entry)) (now (readers .entry)) (now (writers .entry)) (now (certified .entry)) (now (request .entry))) ⌝ }
 {
     let mut rank: u8 = 0;
     'search: loop {
@@ -88,7 +101,7 @@ pub fn wakeable<'a>(
             let mut done: u8 = 0;
             while done < counts.objects {
                 done += 1;
-                let key = key_at(counts, may_read, may_write, readers, writers, done, rank);
+                let key = key_at(counts, may_read, may_write, readers, writers, certified, done, rank);
                 if !passes(rank, key) {
                     continue 'search;
                 }

@@ -1,2 +1,3 @@
 pub mod WaitLaws
 pub mod SurveyLaws
+pub mod MarkLaws

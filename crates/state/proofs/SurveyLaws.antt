@@ -2,7 +2,7 @@
 -- if and only if each object's do.
 -- Assumes nothing.
 use mathlib.Core.Path.{_≡_, refl, sym, ap, ap₂, _∙_}
-use mathlib.Core.Bool.{Bool, true, false, _&&_, _||_}
+use mathlib.Core.Bool.{Bool, true, false, not, _&&_, _||_}
 use mathlib.Core.List.{List}
 use Prim.Native.Nat.{ℕ, _+_, _-_, _^_, _≤_, _<_}
 use native.Mathlib.Omega.{arith}
@@ -10,56 +10,56 @@ use native.Mathlib.Decide.{decLe}
 use lib.Dec.{eqb}
 use lib.Bits.{bitAnd, and-zero-l, and-zero-r, or-zero-r}
 use borrow.Author.Tests.{eqb-true, eq-eqb}
-use Rattle.basics.specs.Choice.{same-test, and-true, and-left, and-right, or-right, between-true, inside-between}
+use Rattle.basics.specs.Choice.{clash, same-test, and-true, and-left, and-right, or-right, between-true, inside-between}
 use Rattle.basics.specs.Loops.{every, every-at, every-true, every-split}
 use Rattle.basics.specs.Arrays.{at}
-use Rattle.ranks.specs.Ranks.{wordBits, isEmpty, union, common, minus, subset, atMostOne, upTo, lessOne, unions}
+use Rattle.ranks.specs.Ranks.{wordBits, isEmpty, member, union, common, minus, subset, disjoint, atMostOne, upTo, lessOne, unions}
 use Rattle.ranks.specs.UnionLaws.{empty-union, empty-minus, unions-both, unions-split, unions-empty, unions-subset, subset-up-to, subset-le, empty-at-most-one}
-use Rattle.ranks.specs.LessOneLaws.{less-one-alone}
+use Rattle.ranks.specs.LessOneLaws.{less-one-alone, less-one-at-most-one}
 use Rattle.state.specs.declared.State.{State}
 use Rattle.state.specs.declared.locks.Survey.{Survey}
-use Rattle.state.specs.State.{mostObjects, read, write, isObject, declared, declaredAny, holders, holdersAny}
+use Rattle.state.specs.State.{mostObjects, read, write, isObject, declared, declaredAny, holders, holdersAny, isCertified, sharesWithNone}
 use Rattle.state.specs.WellFormed.{countsFit, processorsFit, declarationFits, declarationsFit, ofJobs, declaredOfJobs, aboveIdle, heldByActive, heldByRight, locksFit}
-use Rattle.state.specs.WellFormed.{lockedOnce, alone, writtenAlone, oneLockEach, writersAlone, waitsFit, marksFit, wellFormed}
+use Rattle.state.specs.WellFormed.{lockedOnce, alone, writtenAlone, oneLockEach, writersAlone, waitsFit, marksFit, versionFits, certifyFits, certifiesFit, wellFormed}
 use Rattle.state.specs.Clauses.{Clauses, clauses, well-formed, counts-within}
-use Rattle.state.specs.Survey.{inOrder, blockSize, inBlocks, objectInOrder, heldOn, allOf, Surveyed}
+use Rattle.state.specs.Survey.{apart, inOrder, blockSize, inBlocks, objectInOrder, heldOn, allOf, Surveyed, certifiable, certifiedWell}
 
 -- ---- one object
 
-two-by-two : (p q r s : Bool) → p && q && (r && s) ≡ p && r && (q && s)
-two-by-two true true r s = refl
-two-by-two true false true s = refl
-two-by-two true false false s = refl
-two-by-two false q r s = refl
+-- nothing is wrong with how the object is shared if and only if its locks are apart: a set less one tells whether a write lock is alone
+pub alone-apart : (rd wr : ℕ) → rd < 2 ^ wordBits
+    → isEmpty (union (minus rd (lessOne wr)) (common wr (lessOne (union rd wr)))) ≡ apart true rd wr
+alone-apart rd wr h =
+    empty-union (minus rd (lessOne wr)) (common wr (lessOne (union rd wr)))
+    ∙ ap (λ (t : Bool). t && isEmpty (common wr (lessOne (union rd wr)))) (empty-minus rd (lessOne wr))
+    ∙ less-one-alone rd wr h
 
--- nothing is wrong with the object if and only if it is in order: a set less one tells whether a write lock is alone
-pub object-in-order : (mr mw rd wr : ℕ) → rd < 2 ^ wordBits
-    → isEmpty (union (union (minus rd mr) (minus rd (lessOne wr))) (union (minus wr mw) (common wr (lessOne (union rd wr))))) ≡ inOrder mr mw rd wr
-object-in-order mr mw rd wr h =
-    let reading = subset rd mr in
-    let writing = subset wr mw in
-    let before = subset rd (lessOne wr) in
-    let apart = isEmpty (common wr (lessOne (union rd wr))) in
-    empty-union (union (minus rd mr) (minus rd (lessOne wr))) (union (minus wr mw) (common wr (lessOne (union rd wr))))
-    ∙ ap₂ _&&_
-    (empty-union (minus rd mr) (minus rd (lessOne wr)) ∙ ap₂ _&&_ (empty-minus rd mr) (empty-minus rd (lessOne wr)))
-    (empty-union (minus wr mw) (common wr (lessOne (union rd wr))) ∙ ap (λ (t : Bool). t && apart) (empty-minus wr mw))
-    ∙ two-by-two reading before writing apart
-    ∙ ap (λ (t : Bool). reading && writing && t) (less-one-alone rd wr h)
+pub shared-apart : (rd wr : ℕ) → isEmpty (union (common rd wr) (common wr (lessOne wr))) ≡ apart false rd wr
+shared-apart rd wr = empty-union (common rd wr) (common wr (lessOne wr)) ∙ ap (λ (t : Bool). disjoint rd wr && t) (less-one-at-most-one wr)
+
+-- nothing is wrong with the object if and only if it is in order
+pub object-in-order : (none : Bool) (mr mw rd wr wrong : ℕ) → isEmpty wrong ≡ apart none rd wr
+    → isEmpty (union (union (minus rd mr) (minus wr mw)) wrong) ≡ inOrder none mr mw rd wr
+object-in-order none mr mw rd wr wrong e =
+    empty-union (union (minus rd mr) (minus wr mw)) wrong
+    ∙ ap₂ _&&_ (empty-union (minus rd mr) (minus wr mw) ∙ ap₂ _&&_ (empty-minus rd mr) (empty-minus wr mw)) e
 
 -- an object without locks is in order
-pub unlocked-in-order : (mr mw rd wr : ℕ) → rd ≡ 0 → wr ≡ 0 → inOrder mr mw rd wr ≡ true
-unlocked-in-order mr mw rd wr r w =
-    ap₂ (inOrder mr mw) r w
-    ∙ and-true (subset 0 mr && subset 0 mw) (alone 0 0)
-    (and-true (subset 0 mr) (subset 0 mw) (eq-eqb (bitAnd 0 mr) 0 (and-zero-l mr)) (eq-eqb (bitAnd 0 mw) 0 (and-zero-l mw)))
-    (and-true (atMostOne 0) (isEmpty 0 || isEmpty 0) empty-at-most-one refl)
+pub unlocked-in-order : (none : Bool) (mr mw rd wr : ℕ) → rd ≡ 0 → wr ≡ 0 → inOrder none mr mw rd wr ≡ true
+unlocked-in-order none mr mw rd wr r w =
+    ap₂ (inOrder none mr mw) r w
+    ∙ and-true (subset 0 mr && subset 0 mw) (apart none 0 0)
+    (and-true (subset 0 mr) (subset 0 mw) (eq-eqb (bitAnd 0 mr) 0 (and-zero-l mr)) (eq-eqb (bitAnd 0 mw) 0 (and-zero-l mw))) (apart-none none)
+  where
+    apart-none : (b : Bool) → apart b 0 0 ≡ true
+    apart-none true = and-true (atMostOne 0) (isEmpty 0 || isEmpty 0) empty-at-most-one refl
+    apart-none false = and-true (disjoint 0 0) (atMostOne 0) (eq-eqb (bitAnd 0 0) 0 (and-zero-l 0)) empty-at-most-one
 
 -- ---- a block of objects more, behind the first i
 
-module _ (mr mw rd wr : List ℕ) (i : ℕ) where
+module _ (none : Bool) (mr mw rd wr : List ℕ) (i : ℕ) where
   abbrev order : ℕ → Bool
-  order = objectInOrder mr mw rd wr
+  order = objectInOrder mr mw rd wr none
 
   -- the locks of the block
   abbrev pub blockLocks : ℕ
@@ -77,16 +77,16 @@ module _ (mr mw rd wr : List ℕ) (i : ℕ) where
 
   -- a block without locks is in order
   pub unlocked-more : (wrong : ℕ) → isEmpty wrong ≡ every i order → blockLocks ≡ 0 → isEmpty wrong ≡ every (i + blockSize) order
-  unlocked-more wrong e none =
+  unlocked-more wrong e no-lock =
       ap isEmpty (sym (or-zero-r wrong)) ∙ order-more wrong 0 e (sym (every-true blockSize (λ k. order (i + k)) in-order))
     where
       all : every blockSize (λ k. isEmpty (heldOn mr mw rd wr (i + k))) ≡ true
-      all = sym (unions-empty blockSize (λ k. heldOn mr mw rd wr (i + k))) ∙ ap isEmpty (sym block-each) ∙ eq-eqb blockLocks 0 none
+      all = sym (unions-empty blockSize (λ k. heldOn mr mw rd wr (i + k))) ∙ ap isEmpty (sym block-each) ∙ eq-eqb blockLocks 0 no-lock
 
       in-order : (k : ℕ) → 1 ≤ k → k ≤ blockSize → order (i + k) ≡ true
       in-order k a b =
           let both = sym (empty-union (at rd (i + k)) (at wr (i + k))) ∙ every-at blockSize (λ k. isEmpty (heldOn mr mw rd wr (i + k))) k all a b in
-          unlocked-in-order (at mr (i + k)) (at mw (i + k)) (at rd (i + k)) (at wr (i + k))
+          unlocked-in-order none (at mr (i + k)) (at mw (i + k)) (at rd (i + k)) (at wr (i + k))
           (eqb-true (at rd (i + k)) 0 (and-left (isEmpty (at rd (i + k))) (isEmpty (at wr (i + k))) both))
           (eqb-true (at wr (i + k)) 0 (and-right (isEmpty (at rd (i + k))) (isEmpty (at wr (i + k))) both))
 
@@ -97,30 +97,82 @@ pub record ObjectFits (s : State) (o : ℕ) : Type 0 where
   pub jobs : declaredOfJobs s o ≡ true
   pub active : heldByActive s o ≡ true
   pub right : heldByRight s o ≡ true
+  pub once : lockedOnce s o ≡ true
   pub alone : writtenAlone s o ≡ true
+  pub certify : certifyFits s o ≡ true
 
 -- a write lock that is alone is no second lock of its holder
-pub alone-once : (s : State) → writersAlone s ≡ true → oneLockEach s ≡ true
-unfolding writersAlone oneLockEach
-alone-once s w = every-true mostObjects (lockedOnce s) (λ o h l.
-    go o (eqb (holders s write o) 0) refl (and-right (atMostOne (holders s write o)) (eqb (holders s write o) 0 || eqb (holders s read o) 0) (every-at mostObjects (writtenAlone s) o w h l)))
+alone-once : (rd wr : ℕ) → alone true rd wr ≡ true → disjoint rd wr ≡ true
+alone-once rd wr w = go (eqb wr 0) refl (and-right (atMostOne wr) (eqb wr 0 || eqb rd 0) w)
   where
-    go : (o : ℕ) (t : Bool) → eqb (holders s write o) 0 ≡ t → t || eqb (holders s read o) 0 ≡ true → lockedOnce s o ≡ true
-    go o true e z =
-        eq-eqb (bitAnd (holders s read o) (holders s write o)) 0
-        (ap (bitAnd (holders s read o)) (eqb-true (holders s write o) 0 e) ∙ and-zero-r (holders s read o))
-    go o false e z =
-        eq-eqb (bitAnd (holders s read o) (holders s write o)) 0
-        (ap (λ (n : ℕ). bitAnd n (holders s write o)) (eqb-true (holders s read o) 0 z) ∙ and-zero-l (holders s write o))
+    go : (t : Bool) → eqb wr 0 ≡ t → t || eqb rd 0 ≡ true → disjoint rd wr ≡ true
+    go true e z = eq-eqb (bitAnd rd wr) 0 (ap (bitAnd rd) (eqb-true wr 0 e) ∙ and-zero-r rd)
+    go false e z = eq-eqb (bitAnd rd wr) 0 (ap (λ (n : ℕ). bitAnd n wr) (eqb-true rd 0 z) ∙ and-zero-l wr)
 
-pub bad-counts : (s : State) → countsFit s ≡ false → wellFormed s ≡ false
-unfolding wellFormed
-bad-counts s e = simp e
+-- the locks are apart, by version, and a certified object is written and not read: so nobody has two of them, a lock that shares with none is alone,
+-- and the certify lock fits
+module _ (first second certified : Bool) (rd wr : ℕ) where
+  abbrev certified-well : Bool
+  certified-well = not certified || (second && certifiable rd wr)
+
+  apart-once : apart first rd wr ≡ true → disjoint rd wr ≡ true
+  apart-once = go first
+    where
+      go : (b : Bool) → apart b rd wr ≡ true → disjoint rd wr ≡ true
+      go true e = alone-once rd wr e
+      go false e = and-left (disjoint rd wr) (atMostOne wr) e
+
+  apart-alone : apart first rd wr ≡ true → certified-well ≡ true → alone (first || certified) rd wr ≡ true
+  apart-alone = go first certified
+    where
+      go : (b c : Bool) → apart b rd wr ≡ true → not c || (second && certifiable rd wr) ≡ true → alone (b || c) rd wr ≡ true
+      go true c e w = e
+      go false false e w = and-true (atMostOne wr) _ (and-right (disjoint rd wr) (atMostOne wr) e) (or-right (isEmpty wr) true refl)
+      go false true e w =
+          let none = and-right (not (isEmpty wr)) (isEmpty rd) (and-right second (certifiable rd wr) w) in
+          and-true (atMostOne wr) _ (and-right (disjoint rd wr) (atMostOne wr) e) (or-right (isEmpty wr) (isEmpty rd) none)
+
+  well-certify : certified-well ≡ true → not certified || (second && not (isEmpty wr)) ≡ true
+  well-certify = go certified
+    where
+      go : (c : Bool) → not c || (second && certifiable rd wr) ≡ true → not c || (second && not (isEmpty wr)) ≡ true
+      go false w = refl
+      go true w = and-true second _ (and-left second _ w) (and-left (not (isEmpty wr)) (isEmpty rd) (and-right second (certifiable rd wr) w))
+
+  -- and the other way round
+  alone-apart-too : alone (first || certified) rd wr ≡ true → disjoint rd wr ≡ true → apart first rd wr ≡ true
+  alone-apart-too = go first
+    where
+      go : (b : Bool) → alone (b || certified) rd wr ≡ true → disjoint rd wr ≡ true → apart b rd wr ≡ true
+      go true e d = e
+      go false e d = and-true (disjoint rd wr) (atMostOne wr) d (and-left (atMostOne wr) _ e)
+
+  fits-well : alone (first || certified) rd wr ≡ true → not certified || (second && not (isEmpty wr)) ≡ true → certified-well ≡ true
+  fits-well = go first certified
+    where
+      unread : (n t : Bool) → n ≡ true → not t ≡ true → t || (not n || isEmpty rd) ≡ true → isEmpty rd ≡ true
+      unread true false y w z = z
+      unread true true y w z = absurd (clash w refl)
+      unread false t y w z = absurd (clash y refl)
+
+      go : (b c : Bool) → alone (b || c) rd wr ≡ true → not c || (second && not (isEmpty wr)) ≡ true → not c || (second && certifiable rd wr) ≡ true
+      go b false e w = refl
+      go b true e w =
+          let written = and-right second (not (isEmpty wr)) w in
+          and-true second _ (and-left second _ w) (and-true (not (isEmpty wr)) (isEmpty rd) written
+          (unread (b || true) (isEmpty wr) (or-right b true refl) written (and-right (atMostOne wr) _ e)))
+
+pub bad-counts : (s : State) → countsFit s && versionFits s ≡ false → wellFormed s ≡ false
+bad-counts s e = not-well (wellFormed s) refl
+  where
+    not-well : (b : Bool) → wellFormed s ≡ b → b ≡ false
+    not-well true w = let c = clauses s w in absurd (clash (and-true (countsFit s) (versionFits s) (c .counts) (c .version)) e)
+    not-well false w = refl
 
 -- ---- all objects
 
-module _ (s : State) (counts : countsFit s ≡ true) (seen : Survey) (outside : ℕ)
-    (S : Surveyed (s .«may_read») (s .«may_write») (s .readers) (s .writers) (s .counts .objects) seen)
+module _ (s : State) (counts : countsFit s ≡ true) (version : versionFits s ≡ true) (seen : Survey) (outside : ℕ)
+    (S : Surveyed (s .«may_read») (s .«may_write») (s .readers) (s .writers) (eqb (s .counts .version) 1) (s .counts .objects) seen)
     (O : outside ≡ unions (mostObjects - s .counts .objects) (λ k. allOf (s .«may_read») (s .«may_write») (s .readers) (s .writers) (s .counts .objects + k))) where
   -- how many objects are looked at in blocks
   abbrev n : ℕ
@@ -145,9 +197,18 @@ module _ (s : State) (counts : countsFit s ≡ true) (seen : Survey) (outside : 
   abbrev gathered : Bool
   gathered = isEmpty (seen .wrong) && isEmpty outside && subset (seen .declared) (upTo (s .counts .jobs)) && subset (seen .held) (s .active)
 
+  abbrev well : ℕ → Bool
+  well = certifiedWell (s .counts .version) (s .certified) (s .readers) (s .writers)
+
+  abbrev first : Bool
+  first = eqb (s .counts .version) 1
+
+  abbrev second : Bool
+  second = eqb (s .counts .version) 2
+
   -- ---- the test passes, so each object fits
 
-  module _ (t : gathered ≡ true) where
+  module _ (t : gathered ≡ true) (certified : every mostObjects well ≡ true) where
     abbrev t1 : Bool
     t1 = isEmpty (seen .wrong)
 
@@ -163,17 +224,31 @@ module _ (s : State) (counts : countsFit s ≡ true) (seen : Survey) (outside : 
     p2 : t2 ≡ true
     p2 = and-left t2 (subset (seen .declared) (upTo (s .counts .jobs))) p3
 
+    sharing : (o : ℕ) → 1 ≤ o → o ≤ mostObjects → inOrder first (declared s read o) (declared s write o) (holders s read o) (holders s write o) ≡ true
+        → (lockedOnce s o ≡ true) × (writtenAlone s o ≡ true) × (certifyFits s o ≡ true)
+    sharing o a b order =
+        let rd = holders s read o in
+        let wr = holders s write o in
+        let locks = and-right (heldByRight s o) (apart first rd wr) order in
+        let mark = every-at mostObjects well o certified a b in (
+          apart-once first second (isCertified s o) rd wr locks,
+          apart-alone first second (isCertified s o) rd wr locks mark,
+          well-certify first second (isCertified s o) rd wr mark,
+        )
+
     inside-fits : (o : ℕ) → 1 ≤ o → o ≤ s .counts .objects → ObjectFits s o
     inside-fits o a b =
         let l : o ≤ n = omega (arith, few) in
-        let order = every-at n (objectInOrder (s .«may_read») (s .«may_write») (s .readers) (s .writers)) o (sym (S .wrong) ∙ and-left t1 (isEmpty outside) p2) a l in
+        let order = every-at n (objectInOrder (s .«may_read») (s .«may_write») (s .readers) (s .writers) first) o (sym (S .wrong) ∙ and-left t1 (isEmpty outside) p2) a l in
         let within = every-at (s .counts .objects) (λ o. subset (declaredAny s o) (upTo (s .counts .jobs))) o (sym declared-each ∙ and-right t2 (subset (seen .declared) (upTo (s .counts .jobs))) p3) a b in
         record {
           declaration = ap (λ (x : Bool). x || isEmpty (declaredAny s o)) (inside-between 1 (s .counts .objects) o a b);
           jobs = sym (subset-up-to (s .counts .jobs) (declaredAny s o)) ∙ within;
           active = every-at n (heldByActive s) o (sym held-each ∙ and-right t3 (subset (seen .held) (s .active)) t) a l;
-          right = and-left (heldByRight s o) (writtenAlone s o) order;
-          alone = and-right (heldByRight s o) (writtenAlone s o) order;
+          right = and-left (heldByRight s o) (apart first (holders s read o) (holders s write o)) order;
+          once = sharing o a (omega (arith, few)) order .0;
+          alone = sharing o a (omega (arith, few)) order .1;
+          certify = sharing o a (omega (arith, few)) order .2;
         }
 
     outside-fits : (o : ℕ) → s .counts .objects < o → o ≤ mostObjects → ObjectFits s o
@@ -186,14 +261,16 @@ module _ (s : State) (counts : countsFit s ≡ true) (seen : Survey) (outside : 
         let rights = and-left (isEmpty (declaredAny s o)) (isEmpty (holdersAny s o)) both in
         let locks = and-right (isEmpty (declaredAny s o)) (isEmpty (holdersAny s o)) both in
         let each = sym (empty-union (holders s read o) (holders s write o)) ∙ locks in
-        let order = unlocked-in-order (declared s read o) (declared s write o) (holders s read o) (holders s write o)
+        let order = unlocked-in-order first (declared s read o) (declared s write o) (holders s read o) (holders s write o)
         (eqb-true (holders s read o) 0 (and-left _ _ each)) (eqb-true (holders s write o) 0 (and-right (isEmpty (holders s read o)) _ each)) in
         record {
           declaration = or-right (isObject s o) (isEmpty (declaredAny s o)) rights;
           jobs = ap (ofJobs s) (eqb-true (declaredAny s o) 0 rights) ∙ sym (subset-up-to (s .counts .jobs) 0) ∙ eq-eqb (bitAnd 0 (upTo (s .counts .jobs))) 0 (and-zero-l (upTo (s .counts .jobs)));
           active = ap (λ (h : ℕ). subset h (s .active)) (eqb-true (holdersAny s o) 0 locks) ∙ eq-eqb (bitAnd 0 (s .active)) 0 (and-zero-l (s .active));
-          right = and-left (heldByRight s o) (writtenAlone s o) order;
-          alone = and-right (heldByRight s o) (writtenAlone s o) order;
+          right = and-left (heldByRight s o) (apart first (holders s read o) (holders s write o)) order;
+          once = sharing o (omega arith) b order .0;
+          alone = sharing o (omega arith) b order .1;
+          certify = sharing o (omega arith) b order .2;
         }
 
     pub each-fits : (o : ℕ) → 1 ≤ o → o ≤ mostObjects → ObjectFits s o
@@ -224,8 +301,10 @@ module _ (s : State) (counts : countsFit s ≡ true) (seen : Survey) (outside : 
 
     pub fits-gathered : gathered ≡ true
     fits-gathered =
-        let wrong = S .wrong ∙ every-true n (objectInOrder (s .«may_read») (s .«may_write») (s .readers) (s .writers))
-        (λ o a l. (let F = fits o a (omega (arith, few)) in and-true (heldByRight s o) (writtenAlone s o) (F .right) (F .alone))) in
+        let wrong = S .wrong ∙ every-true n (objectInOrder (s .«may_read») (s .«may_write») (s .readers) (s .writers) first)
+        (λ o a l. (let F = fits o a (omega (arith, few)) in
+        and-true (heldByRight s o) (apart first (holders s read o) (holders s write o)) (F .right)
+        (alone-apart-too first second (isCertified s o) (holders s read o) (holders s write o) (F .alone) (F .once)))) in
         let none = outside-each ∙ every-true (mostObjects - s .counts .objects) (λ k. empty (s .counts .objects + k))
         (λ k a l. none-outside (s .counts .objects + k) (omega arith) (omega arith) (omega (arith, few))) in
         let within = declared-each ∙ every-true (s .counts .objects) (λ o. subset (declaredAny s o) (upTo (s .counts .jobs)))
@@ -233,25 +312,33 @@ module _ (s : State) (counts : countsFit s ≡ true) (seen : Survey) (outside : 
         let held = held-each ∙ every-true n (heldByActive s) (λ o a l. fits o a (omega (arith, few)) .active) in
         simp (wrong, none, within, held)
 
+    pub fits-certified : every mostObjects well ≡ true
+    fits-certified =
+        every-true mostObjects well (λ o a b.
+        let F = fits o a b in
+        fits-well first second (isCertified s o) (holders s read o) (holders s write o) (F .alone) (F .certify))
+
   -- ---- the whole test
 
   abbrev test : Bool
-  test = gathered && subset (s .active) (upTo (s .counts .jobs)) && subset (s .unlocked) (s .active) && processorsFit s && waitsFit s
+  test =
+      gathered && subset (s .active) (upTo (s .counts .jobs)) && subset (s .unlocked) (s .active) && every mostObjects well && processorsFit s && waitsFit s
 
   test-clauses : test ≡ true → Clauses s
-  unfolding declarationsFit aboveIdle locksFit writersAlone marksFit
+  unfolding declarationsFit aboveIdle locksFit oneLockEach writersAlone marksFit certifiesFit
   test-clauses t =
       let t4 = gathered && subset (s .active) (upTo (s .counts .jobs)) in
       let t5 = t4 && subset (s .unlocked) (s .active) in
-      let t6 = t5 && processorsFit s in
-      let p6 = and-left t6 (waitsFit s) t in
-      let p5 = and-left t5 (processorsFit s) p6 in
+      let t6 = t5 && every mostObjects well in
+      let t7 = t6 && processorsFit s in
+      let p7 = and-left t7 (waitsFit s) t in
+      let p6 = and-left t6 (processorsFit s) p7 in
+      let p5 = and-left t5 (every mostObjects well) p6 in
       let p4 = and-left t4 (subset (s .unlocked) (s .active)) p5 in
-      let fits = each-fits (and-left gathered (subset (s .active) (upTo (s .counts .jobs))) p4) in
-      let alone-all = every-true mostObjects (writtenAlone s) (λ o a b. fits o a b .alone) in
+      let fits = each-fits (and-left gathered (subset (s .active) (upTo (s .counts .jobs))) p4) (and-right t5 (every mostObjects well) p6) in
       record {
         counts = counts;
-        processors = and-right t5 (processorsFit s) p6;
+        processors = and-right t6 (processorsFit s) p7;
         declarations = every-true mostObjects (declarationFits s) (λ o a b. fits o a b .declaration);
         above =
             and-true (ofJobs s (s .active)) (every mostObjects (declaredOfJobs s))
@@ -260,25 +347,29 @@ module _ (s : State) (counts : countsFit s ≡ true) (seen : Survey) (outside : 
         locks =
             and-true (every mostObjects (heldByActive s)) (every mostObjects (heldByRight s))
             (every-true mostObjects (heldByActive s) (λ o a b. fits o a b .active)) (every-true mostObjects (heldByRight s) (λ o a b. fits o a b .right));
-        once = alone-once s alone-all;
-        alone = alone-all;
-        waits = and-right t6 (waitsFit s) t;
+        once = every-true mostObjects (lockedOnce s) (λ o a b. fits o a b .once);
+        alone = every-true mostObjects (writtenAlone s) (λ o a b. fits o a b .alone);
+        waits = and-right t7 (waitsFit s) t;
         marks = and-right t4 (subset (s .unlocked) (s .active)) p5;
+        version = version;
+        certifies = every-true mostObjects (certifyFits s) (λ o a b. fits o a b .certify);
       }
 
   clauses-test : Clauses s → test ≡ true
-  unfolding declarationsFit aboveIdle locksFit writersAlone marksFit
+  unfolding declarationsFit aboveIdle locksFit oneLockEach writersAlone marksFit certifiesFit
   clauses-test c =
-      let all : gathered ≡ true = fits-gathered (λ o a b. record {
+      let fits : (o : ℕ) → 1 ≤ o → o ≤ mostObjects → ObjectFits s o = λ o a b. record {
         declaration = every-at mostObjects (declarationFits s) o (c .declarations) a b;
         jobs = every-at mostObjects (declaredOfJobs s) o (and-right (ofJobs s (s .active)) (every mostObjects (declaredOfJobs s)) (c .above)) a b;
         active = every-at mostObjects (heldByActive s) o (and-left (every mostObjects (heldByActive s)) (every mostObjects (heldByRight s)) (c .locks)) a b;
         right = every-at mostObjects (heldByRight s) o (and-right (every mostObjects (heldByActive s)) (every mostObjects (heldByRight s)) (c .locks)) a b;
+        once = every-at mostObjects (lockedOnce s) o (c .once) a b;
         alone = every-at mostObjects (writtenAlone s) o (c .alone) a b;
-      }) in
+        certify = every-at mostObjects (certifyFits s) o (c .certifies) a b;
+      } in
       let jobs : subset (s .active) (upTo (s .counts .jobs)) ≡ true =
       subset-up-to (s .counts .jobs) (s .active) ∙ and-left (ofJobs s (s .active)) (every mostObjects (declaredOfJobs s)) (c .above) in
-      simp (all, jobs, c .marks, c .processors, c .waits)
+      simp (fits-gathered fits, jobs, c .marks, fits-certified fits, c .processors, c .waits)
 
   pub tests-well : test ≡ wellFormed s
   tests-well = same-test test (wellFormed s) (λ t. well-formed s (test-clauses t)) (λ w. clauses-test (clauses s w))

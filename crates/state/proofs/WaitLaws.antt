@@ -1,30 +1,71 @@
--- What the test of a waiting job comes to, once the mode and the object of its request are known to be in range.
+-- What the test of a waiting job comes to: what it may ask for, then the whole, once the mode and the object of its request are known to be in range.
 -- Assumes nothing.
-use mathlib.Core.Path.{_≡_, sym, ap, _∙_}
+use mathlib.Core.Path.{_≡_, refl, sym, ap, ap₂, _∙_}
 use mathlib.Core.Logic.{_≢_}
-use mathlib.Core.Bool.{Bool, true, not, _&&_, _||_}
+use mathlib.Core.Bool.{Bool, true, false, not, _&&_, _||_}
 use Prim.Native.Nat.{ℕ, suc, _+_, _-_, _≤_}
 use native.Mathlib.Omega.{arith}
 use lib.ListN.{getD}
 use borrow.Author.Tests.{eq-eqb, ne-eqb}
-use Rattle.basics.specs.Choice.{between, and-assoc}
+use Rattle.basics.specs.Choice.{if_then_else_, between}
 use Rattle.basics.specs.Arrays.{at, at-index}
 use Rattle.state.specs.declared.State.{State}
-use Rattle.state.specs.State.{isObject, isActive, hasUnlocked, mayLock, holdsAlready, requestOf, modeOfRequest, objectOfRequest, requestedMode, requestedObject}
-use Rattle.state.specs.WellFormed.{mayAwait, waitFits}
+use Rattle.ranks.specs.Ranks.{member}
+use Rattle.state.specs.State.{certify, ofMode, strongest, isCertified, isObject, isActive, hasUnlocked, mayLock, holdsAlready, requestOf, modeOfRequest, objectOfRequest, requestedMode, requestedObject}
+use Rattle.state.specs.WellFormed.{holdsBefore, mayAwait, waitFits}
 use Rattle.state.specs.Survey.{mayAsk}
 
+-- ---- what a rank may ask for, by its right, its own lock in that mode, its write lock and the object's mark
+
+abbrev Asks : (asks-certify right same written certified : Bool) → Bool
+Asks asks-certify right same written certified =
+    right && not (if asks-certify then written && certified else (same || written)) && (not asks-certify || written)
+
+certify-asks : (right same written certified : Bool) → right && written && not certified ≡ Asks true right same written certified
+certify-asks false same written certified = refl
+certify-asks true same true true = refl
+certify-asks true same true false = refl
+certify-asks true same false certified = refl
+
+lock-asks : (right same written certified : Bool) → right && not (same || written) ≡ Asks false right same written certified
+lock-asks right same written certified = go (right && not (same || written))
+  where
+    go : (b : Bool) → b ≡ b && true
+    go true = refl
+    go false = refl
+
+module _ (m r mr mw rd wr : ℕ) (certified : Bool) where
+  pub may-certify : (right written : Bool) → m ≡ certify → right ≡ member (ofMode m mr mw) r → written ≡ member wr r
+      → right && written && not certified ≡ mayAsk m r mr mw rd wr certified
+  may-certify right written e p q =
+      ap₂ (λ (x y : Bool). x && y && not certified) p q
+      ∙ certify-asks (member (ofMode m mr mw) r) (member (ofMode m rd wr) r) (member wr r) certified
+      ∙ ap (λ (b : Bool). Asks b (member (ofMode m mr mw) r) (member (ofMode m rd wr) r) (member wr r) certified) (sym (eq-eqb m certify e))
+
+  pub may-lock : (right same written : Bool) → m ≢ certify → right ≡ member (ofMode m mr mw) r → same ≡ member (ofMode m rd wr) r → written ≡ member wr r
+      → right && not (same || written) ≡ mayAsk m r mr mw rd wr certified
+  may-lock right same written d p q w =
+      ap₂ (λ (x y : Bool). x && not y) p (ap₂ _||_ q w)
+      ∙ lock-asks (member (ofMode m mr mw) r) (member (ofMode m rd wr) r) (member wr r) certified
+      ∙ ap (λ (b : Bool). Asks b (member (ofMode m mr mw) r) (member (ofMode m rd wr) r) (member wr r) certified) (sym (ne-eqb m certify d))
+
+-- ---- a waiting job
+
 -- the object's sets are those at its index
-pub may-await-is : (s : State) (m r o : ℕ) → 1 ≤ o → between 1 2 m && isObject s o ≡ true
-    → isActive s r && not (hasUnlocked s r) && mayAsk m r (getD (s .«may_read») (o - 1) 0) (getD (s .«may_write») (o - 1) 0) (getD (s .readers) (o - 1) 0) (getD (s .writers) (o - 1) 0)
+pub may-await-is : (s : State) (m r o : ℕ) → 1 ≤ o → between 1 (strongest (s .counts .version)) m && isObject s o ≡ true
+    → isActive s r && not (hasUnlocked s r) && mayAsk m r (getD (s .«may_read») (o - 1) 0) (getD (s .«may_write») (o - 1) 0) (getD (s .readers) (o - 1) 0) (getD (s .writers) (o - 1) 0) (isCertified s o)
     ≡ mayAwait s m r o
 may-await-is s m r o h e =
-    ap (λ (n : ℕ). isActive s r && not (hasUnlocked s r) && mayAsk m r n (getD (s .«may_write») (o - 1) 0) (getD (s .readers) (o - 1) 0) (getD (s .writers) (o - 1) 0)) (sym (at-index (s .«may_read») o h))
-    ∙ ap (λ (n : ℕ). isActive s r && not (hasUnlocked s r) && mayAsk m r (at (s .«may_read») o) n (getD (s .readers) (o - 1) 0) (getD (s .writers) (o - 1) 0)) (sym (at-index (s .«may_write») o h))
-    ∙ ap (λ (n : ℕ). isActive s r && not (hasUnlocked s r) && mayAsk m r (at (s .«may_read») o) (at (s .«may_write») o) n (getD (s .writers) (o - 1) 0)) (sym (at-index (s .readers) o h))
-    ∙ ap (λ (n : ℕ). isActive s r && not (hasUnlocked s r) && mayAsk m r (at (s .«may_read») o) (at (s .«may_write») o) (at (s .readers) o) n) (sym (at-index (s .writers) o h))
-    ∙ sym (and-assoc (isActive s r && not (hasUnlocked s r)) (mayLock s m r o) (not (holdsAlready s m r o)))
-    ∙ ap (λ (b : Bool). b && isActive s r && not (hasUnlocked s r) && mayLock s m r o && not (holdsAlready s m r o)) (sym e)
+    ap (λ (n : ℕ). isActive s r && not (hasUnlocked s r) && mayAsk m r n (getD (s .«may_write») (o - 1) 0) (getD (s .readers) (o - 1) 0) (getD (s .writers) (o - 1) 0) (isCertified s o)) (sym (at-index (s .«may_read») o h))
+    ∙ ap (λ (n : ℕ). isActive s r && not (hasUnlocked s r) && mayAsk m r (at (s .«may_read») o) n (getD (s .readers) (o - 1) 0) (getD (s .writers) (o - 1) 0) (isCertified s o)) (sym (at-index (s .«may_write») o h))
+    ∙ ap (λ (n : ℕ). isActive s r && not (hasUnlocked s r) && mayAsk m r (at (s .«may_read») o) (at (s .«may_write») o) n (getD (s .writers) (o - 1) 0) (isCertified s o)) (sym (at-index (s .readers) o h))
+    ∙ ap (λ (n : ℕ). isActive s r && not (hasUnlocked s r) && mayAsk m r (at (s .«may_read») o) (at (s .«may_write») o) (at (s .readers) o) n (isCertified s o)) (sym (at-index (s .writers) o h))
+    ∙ four (isActive s r && not (hasUnlocked s r)) (mayLock s m r o) (not (holdsAlready s m r o)) (holdsBefore s m r o)
+    ∙ ap (λ (b : Bool). b && isActive s r && not (hasUnlocked s r) && mayLock s m r o && not (holdsAlready s m r o) && holdsBefore s m r o) (sym e)
+  where
+    four : (a b c d : Bool) → a && (b && c && d) ≡ a && b && c && d
+    four true b c d = refl
+    four false b c d = refl
 
 pub wait-none : (s : State) (r : ℕ) → requestOf s r ≡ 0 → waitFits s r ≡ true
 wait-none s r e = simp (eq-eqb (requestOf s r) 0 e)

@@ -8,20 +8,23 @@ use Prim.Native.Nat.{ℕ, zero, suc, _^_, _≤_, _<_}
 use native.Mathlib.Omega.{arith}
 use native.Mathlib.Decide.{ℕ-discrete}
 use lib.Dec.{eqb}
+use borrow.Author.Tests.{eq-eqb, ne-eqb}
 use Rattle.basics.specs.Choice.{if_then_else_}
 use Rattle.basics.specs.Arrays.{at, put, at-put-same, at-put-other, at-mapped}
 use Rattle.ranks.specs.Ranks.{member, with, without}
 use Rattle.ranks.specs.RankLaws.{member-with-other, member-without-same, member-without-other, with-lt, without-lt}
 use Rattle.state.specs.declared.State.{State}
-use Rattle.state.specs.State.{mostJobs, mostObjects, read, write, holders, holds, isActive, hasUnlocked, requestOf, requestFor, withLocks}
+use Rattle.state.specs.State.{mostJobs, mostObjects, read, write, certify, marked, mark, holders, holds, isCertified, isActive, hasUnlocked, requestOf, requestFor}
+use Rattle.state.specs.State.{withLocks}
 use Rattle.state.specs.State.{activate, await, grant, release, endRun}
-use Rattle.state.specs.Facts.{Sized, RequestFacts, Facts}
+use Rattle.state.specs.Facts.{Sized, In, RequestFacts, Facts}
+use Rattle.state.specs.Marks.{mark-same, mark-other, drop-kept, drop-gone}
 use Rattle.state.specs.Modes.{either-mode}
 use Rattle.state.specs.WellFormedFacts.{active-rank}
 
 -- the locks of t over the table of s: every change of s is of this form
 abbrev pub overTable : State → State → State
-overTable s t = withLocks s (t .active) (t .unlocked) (t .readers) (t .writers) (t .request)
+overTable s t = withLocks s (t .active) (t .unlocked) (t .readers) (t .writers) (t .certified) (t .request)
 
 -- t says of job x what s says
 pub record Same (s t : State) (x : ℕ) : Type 0 where
@@ -29,17 +32,26 @@ pub record Same (s t : State) (x : ℕ) : Type 0 where
   pub unlocked : hasUnlocked t x ≡ hasUnlocked s x
   pub request : requestOf t x ≡ requestOf s x
   pub locks : (m o : ℕ) → holds t m x o ≡ holds s m x o
+  pub certified : (o : ℕ) → holds s write x o ≡ true → isCertified t o ≡ isCertified s o
 
 -- t says of job x's locks on object p what s says
-abbrev pub SameLocks : State → State → ℕ → ℕ → Type 0
-SameLocks s t x p = (m : ℕ) → holds t m x p ≡ holds s m x p
+pub record SameLocks (s t : State) (x p : ℕ) : Type 0 where
+  pub locks : (m : ℕ) → holds t m x p ≡ holds s m x p
+  pub certified : holds s write x p ≡ true → isCertified t p ≡ isCertified s p
+
+-- at most one job writes an object
+pub one-writer : {s : State} → Facts s → (o a b : ℕ) → In (holders s write o) a → In (holders s write o) b → a ≡ b
+one-writer F o a b i = F .locks o .alone a b i .0
 
 -- where the other jobs' locks stay, and those on other objects, each lock stays but r's on o
 other-locks : (s t : State) (r o : ℕ) → ((x : ℕ) → r ≢ x → Same s t x) → ((m p : ℕ) → o ≢ p → holders t m p ≡ holders s m p)
-    → (x p : ℕ) → SameLocks s t x p ⊎ ((r ≡ x) × (o ≡ p))
-other-locks s t r o jobs objects x p = elim (ℕ-discrete r x) [
-  | yes e ↦ elim (ℕ-discrete o p) [ yes q ↦ inr (e, q) | no d ↦ inl (λ m. ap (λ v. member v x) (objects m p d)) ]
-  | no d ↦ inl (λ m. jobs x d .locks m p)
+    → ((p : ℕ) → o ≢ p → isCertified t p ≡ isCertified s p) → (x p : ℕ) → SameLocks s t x p ⊎ ((r ≡ x) × (o ≡ p))
+other-locks s t r o jobs objects marks x p = elim (ℕ-discrete r x) [
+  | yes e ↦ elim (ℕ-discrete o p) [
+    | yes q ↦ inr (e, q)
+    | no d ↦ inl (record { locks = λ m. ap (λ v. member v x) (objects m p d); certified = λ h. marks p d })
+  ]
+  | no d ↦ inl (record { locks = λ m. jobs x d .locks m p; certified = jobs x d .certified p })
 ]
 
 -- ---- the holders of an object after a grant to r in mode m
@@ -85,7 +97,7 @@ module _ (m r v : ℕ) where
 module _ (s : State) (r : ℕ) where
   pub activate-same : (x : ℕ) → r ≢ x → Same s (activate s r) x
   unfolding activate
-  activate-same x d = record { active = member-with-other (s .active) r x d; unlocked = refl; request = refl; locks = λ m o. refl }
+  activate-same x d = record { active = member-with-other (s .active) r x d; unlocked = refl; request = refl; locks = λ m o. refl; certified = λ o h. refl }
 
   pub await-same : (m o x : ℕ) → r ≢ x → Same s (await s m r o) x
   unfolding await
@@ -94,6 +106,7 @@ module _ (s : State) (r : ℕ) where
     unlocked = refl;
     request = at-put-other (s .request) r (requestFor m o) x d;
     locks = λ n p. refl;
+    certified = λ p h. refl;
   }
 
 -- ---- the release of one read lock
@@ -137,11 +150,13 @@ module _ (s : State) (r : ℕ) (Z : Sized s) (o : ℕ) (low : 1 ≤ o) (high : o
           (release-either (λ v before. member v x ≡ member before x) (member-without-other (holders s read o) r x d) refl m)
       | no n ↦ ap (λ v. member v x) (release-others m p n)
     ];
+    certified = λ p h. refl;
   }
 
   -- each lock stays but that of r on o
   pub release-locks : (x p : ℕ) → SameLocks s (release s r o) x p ⊎ ((r ≡ x) × (o ≡ p))
-  release-locks = other-locks s (release s r o) r o release-same release-others
+  unfolding release
+  release-locks = other-locks s (release s r o) r o release-same release-others (λ p d. refl)
 
 -- ---- the end of a run
 
@@ -158,6 +173,15 @@ module _ (s : State) (F : Facts s) (r : ℕ) where
       (at-mapped (λ v. without v r) mostObjects (s .readers) o (without-none r) (F .sized .readers))
       (at-mapped (λ v. without v r) mostObjects (s .writers) o (without-none r) (F .sized .writers)) m
 
+  -- the marks on what r does not write stay, those on what it writes go
+  pub end-mark-kept : (o : ℕ) → holds s write r o ≡ false → isCertified (endRun s r) o ≡ isCertified s o
+  unfolding endRun
+  end-mark-kept o h = drop-kept r (s .writers) (s .certified) (F .sized .certified) o h
+
+  pub end-mark-gone : (o : ℕ) → 1 ≤ o → o ≤ mostObjects → holds s write r o ≡ true → isCertified (endRun s r) o ≡ false
+  unfolding endRun
+  end-mark-gone o a b h = drop-gone r (s .writers) (s .certified) o a b h
+
   pub end-same : (x : ℕ) → r ≢ x → Same s (endRun s r) x
   unfolding endRun
   end-same x d = record {
@@ -165,14 +189,22 @@ module _ (s : State) (F : Facts s) (r : ℕ) where
     unlocked = member-without-other (s .unlocked) r x d;
     request = at-put-other (s .request) r 0 x d;
     locks = λ m o. ap (λ v. member v x) (end-holders m o) ∙ member-without-other (holders s m o) r x d;
+    certified = λ o h. end-mark-kept o (other o h (holds s write r o) refl);
   }
+    where
+      other : (o : ℕ) → holds s write x o ≡ true → (b : Bool) → holds s write r o ≡ b → b ≡ false
+      other o h true e = absurd (d (one-writer F o r x e h))
+      other o h false e = refl
 
   pub end-none : (m o : ℕ) → holds (endRun s r) m r o ≡ false
   end-none m o = ap (λ v. member v r) (end-holders m o) ∙ member-without-same (holders s m o) r
 
   -- each lock stays but those of r
   pub end-locks : (x p : ℕ) → SameLocks s (endRun s r) x p ⊎ (r ≡ x)
-  end-locks x p = elim (ℕ-discrete r x) [ yes e ↦ inr e | no d ↦ inl (λ m. end-same x d .locks m p) ]
+  end-locks x p = elim (ℕ-discrete r x) [
+    | yes e ↦ inr e
+    | no d ↦ inl (record { locks = λ m. end-same x d .locks m p; certified = end-same x d .certified p })
+  ]
 
   pub end-request : 1 ≤ r → r ≤ s .counts .jobs → requestOf (endRun s r) r ≡ 0
   unfolding endRun
@@ -221,6 +253,25 @@ module _ (s : State) (F : Facts s) (r m o : ℕ) (A : RequestFacts s m r o) wher
       go true = refl
       go false = at-put-other (s .writers) o (with (at (s .writers) o) r) p d
 
+  -- the mark of o is set by a certify lock, and no other mark changes
+  pub grant-certified : m ≡ certify → isCertified (grant s m r o) o ≡ true
+  unfolding grant
+  grant-certified e =
+      ap (λ b. marked (if b then mark o (s .certified) else s .certified) o) (eq-eqb m certify e)
+      ∙ mark-same o (A .object .0) object-fits (s .certified) (Z .certified)
+
+  pub grant-mark-kept : m ≢ certify → (p : ℕ) → isCertified (grant s m r o) p ≡ isCertified s p
+  unfolding grant
+  grant-mark-kept d p = ap (λ b. marked (if b then mark o (s .certified) else s .certified) p) (ne-eqb m certify d)
+
+  pub grant-mark-other : (p : ℕ) → o ≢ p → isCertified (grant s m r o) p ≡ isCertified s p
+  unfolding grant
+  grant-mark-other p d = go (eqb m certify)
+    where
+      go : (b : Bool) → marked (if b then mark o (s .certified) else s .certified) p ≡ marked (s .certified) p
+      go true = mark-other o (A .object .0) object-fits (s .certified) (Z .certified) p d
+      go false = refl
+
   pub grant-same : (x : ℕ) → r ≢ x → Same s (grant s m r o) x
   unfolding grant
   grant-same x d = record {
@@ -230,6 +281,10 @@ module _ (s : State) (F : Facts s) (r m o : ℕ) (A : RequestFacts s m r o) wher
     locks = λ n p. elim (ℕ-discrete o p) [
       | yes e ↦ subst (λ q. holds (grant s m r o) n x q ≡ holds s n x q) e (there n)
       | no k ↦ ap (λ v. member v x) (grant-others n p k)
+    ];
+    certified = λ p h. elim (ℕ-discrete o p) [
+      | yes e ↦ grant-mark-kept (λ q. d (one-writer F o r x (A .before q) (subst (λ y. holds s write x y ≡ true) (sym e) h))) p
+      | no k ↦ grant-mark-other p k
     ];
   }
     where
@@ -242,4 +297,4 @@ module _ (s : State) (F : Facts s) (r m o : ℕ) (A : RequestFacts s m r o) wher
 
   -- each lock stays but that of r on o
   pub grant-locks : (x p : ℕ) → SameLocks s (grant s m r o) x p ⊎ ((r ≡ x) × (o ≡ p))
-  grant-locks = other-locks s (grant s m r o) r o grant-same grant-others
+  grant-locks = other-locks s (grant s m r o) r o grant-same grant-others grant-mark-other

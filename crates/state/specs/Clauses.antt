@@ -1,4 +1,4 @@
--- The nine clauses of a well-formed state, taken apart and put together.
+-- The eleven clauses of a well-formed state, taken apart and put together.
 -- Assumes nothing.
 use mathlib.Core.Path.{_≡_}
 use mathlib.Core.Bool.{true, _&&_}
@@ -7,7 +7,7 @@ use Rattle.basics.specs.Choice.{between, and-left, and-right, between-true, ins
 use Rattle.state.specs.declared.Counts.{Counts}
 use Rattle.state.specs.declared.State.{State}
 use Rattle.state.specs.State.{mostJobs, mostObjects, mostProcessors}
-use Rattle.state.specs.WellFormed.{countsWithin, countsFit, processorsFit, declarationsFit, aboveIdle, locksFit, oneLockEach, writersAlone, waitsFit, marksFit, wellFormed}
+use Rattle.state.specs.WellFormed.{countsWithin, countsFit, processorsFit, declarationsFit, aboveIdle, locksFit, oneLockEach, writersAlone, waitsFit, marksFit, versionFits, certifiesFit, wellFormed}
 
 pub record Clauses (s : State) : Type 0 where
   pub counts : countsFit s ≡ true
@@ -19,6 +19,8 @@ pub record Clauses (s : State) : Type 0 where
   pub alone : writersAlone s ≡ true
   pub waits : waitsFit s ≡ true
   pub marks : marksFit s ≡ true
+  pub version : versionFits s ≡ true
+  pub certifies : certifiesFit s ≡ true
 
 pub clauses : (s : State) → wellFormed s ≡ true → Clauses s
 unfolding wellFormed
@@ -31,7 +33,11 @@ clauses s w =
     let c6 = c5 && oneLockEach s in
     let c7 = c6 && writersAlone s in
     let c8 = c7 && waitsFit s in
-    let w8 = and-left c8 (marksFit s) w in
+    let c9 = c8 && marksFit s in
+    let c10 = c9 && versionFits s in
+    let w10 = and-left c10 (certifiesFit s) w in
+    let w9 = and-left c9 (versionFits s) w10 in
+    let w8 = and-left c8 (marksFit s) w9 in
     let w7 = and-left c7 (waitsFit s) w8 in
     let w6 = and-left c6 (writersAlone s) w7 in
     let w5 = and-left c5 (oneLockEach s) w6 in
@@ -47,12 +53,14 @@ clauses s w =
       once = and-right c5 (oneLockEach s) w6;
       alone = and-right c6 (writersAlone s) w7;
       waits = and-right c7 (waitsFit s) w8;
-      marks = and-right c8 (marksFit s) w;
+      marks = and-right c8 (marksFit s) w9;
+      version = and-right c9 (versionFits s) w10;
+      certifies = and-right c10 (certifiesFit s) w;
     }
 
 pub well-formed : (s : State) → Clauses s → wellFormed s ≡ true
 unfolding wellFormed
-well-formed s c = simp (c .counts, c .processors, c .declarations, c .above, c .locks, c .once, c .alone, c .waits, c .marks)
+well-formed s c = simp (c .counts, c .processors, c .declarations, c .above, c .locks, c .once, c .alone, c .waits, c .marks, c .version, c .certifies)
 
 -- ---- counts within their limits
 

@@ -3,12 +3,13 @@
 -- Assumes nothing.
 use mathlib.Core.Path.{_≡_}
 use mathlib.Core.Logic.{_≢_}
-use mathlib.Core.Bool.{true, false}
+use mathlib.Core.Bool.{Bool, true, false}
 use Prim.Native.Nat.{ℕ, _^_, _≤_, _<_}
 use lib.ListN.{length}
 use Rattle.ranks.specs.Ranks.{member}
 use Rattle.state.specs.declared.State.{State}
-use Rattle.state.specs.State.{mostJobs, mostObjects, read, write, isObject, processorOf, declared, holders, holdsAlready, hasUnlocked, requestOf, requestedMode, requestedObject}
+use Rattle.state.specs.State.{mostJobs, mostObjects, markWords, read, write, certify, strongest, isObject, processorOf, declared, holders, isCertified, sharesWithNone, holdsAlready}
+use Rattle.state.specs.State.{hasUnlocked, requestOf, requestedMode, requestedObject}
 use Rattle.state.specs.Clauses.{Within}
 
 -- the lengths that the arrays of the code's record always have
@@ -18,32 +19,37 @@ pub record Sized (s : State) : Type 0 where
   pub may-write : length (s .«may_write») ≡ mostObjects
   pub readers : length (s .readers) ≡ mostObjects
   pub writers : length (s .writers) ≡ mostObjects
+  pub certified : length (s .certified) ≡ markWords
   pub request : length (s .request) ≡ mostJobs
 
 -- rank r is in the set
 abbrev pub In : ℕ → ℕ → Type 0
 In set r = member set r ≡ true
 
--- at most one write lock on an object; "a write lock shares its object with no other"
-abbrev pub Alone : (readers writers : ℕ) → Type 0
-Alone readers writers = (a b : ℕ) → In writers a → (In writers b → a ≡ b) × (In readers b → ⊥)
+-- at most one write lock on an object; where it shares with none, no read lock beside it
+abbrev pub Alone : (none : Bool) (readers writers : ℕ) → Type 0
+Alone none readers writers = (a b : ℕ) → In writers a → (In writers b → a ≡ b) × (none ≡ true → In readers b → ⊥)
 
--- "locks only of active jobs with that right; at most one lock per job and object; a write lock shares its object with no other": of object o
+-- "locks only of active jobs with that right; at most one lock per job and object; a write lock shares its object with no other", as the version has it: of object o
 pub record LockFacts (s : State) (o : ℕ) : Type 0 where
   pub jobs : (m : ℕ) → holders s m o < 2 ^ s .counts .jobs
   pub active : (m r : ℕ) → In (holders s m o) r → In (s .active) r
   pub right : (m r : ℕ) → In (holders s m o) r → In (declared s m o) r
   pub once : (r : ℕ) → In (holders s read o) r → In (holders s write o) r → ⊥
-  pub alone : Alone (holders s read o) (holders s write o)
+  pub alone : Alone (sharesWithNone s o) (holders s read o) (holders s write o)
+  -- a certify lock is a write lock of version 2
+  pub certified : isCertified s o ≡ true → (s .counts .version ≡ 2) × ((r : ℕ) × In (holders s write o) r)
 
 -- "a waiting job is active, hasn't unlocked, and asks for a declared lock that 17 wouldn't refuse": of rank r and the lock on o in mode m
 pub record RequestFacts (s : State) (m r o : ℕ) : Type 0 where
-  pub mode : (read ≤ m) × (m ≤ write)
+  pub mode : (read ≤ m) × (m ≤ strongest (s .counts .version))
   pub object : (1 ≤ o) × (o ≤ s .counts .objects)
   pub active : In (s .active) r
   pub not-unlocked : hasUnlocked s r ≡ false
   pub right : In (declared s m o) r
   pub new : holdsAlready s m r o ≡ false
+  -- "a job waiting to certify holds the write lock"
+  pub before : m ≡ certify → In (holders s write o) r
 
 pub record Facts (s : State) : Type 0 where
   pub sized : Sized s
@@ -59,3 +65,4 @@ pub record Facts (s : State) : Type 0 where
   -- "an idle job carries no mark of unlocking"
   pub marks : (r : ℕ) → In (s .unlocked) r → In (s .active) r
   pub marks-jobs : s .unlocked < 2 ^ s .counts .jobs
+  pub version : (1 ≤ s .counts .version) × (s .counts .version ≤ 2)

@@ -4,6 +4,7 @@ pub mod WellFormed
 pub mod Clauses
 pub mod Survey
 pub mod Modes
+pub mod Marks
 pub mod Facts
 pub mod WellFormedFacts
 pub mod Changes

@@ -1,15 +1,15 @@
--- Well-formed states: refusal 8 of document 01, one definition for each of its clauses, in its order.
+-- Well-formed states: refusal 8 of document 01, one definition for each of its clauses, in its order, with what CR 6 of document 02 makes of them and adds.
 -- Assumes nothing.
 use Prim.Native.Nat.{ℕ, _^_}
 use mathlib.Core.Bool.{Bool, not, _&&_, _||_}
-use lib.Dec.{ltb}
+use lib.Dec.{eqb, ltb}
 use Rattle.basics.specs.Choice.{between}
 use Rattle.basics.specs.Loops.{every}
 use Rattle.ranks.specs.Ranks.{isEmpty, subset, disjoint, atMostOne}
 use Rattle.state.specs.declared.Counts.{Counts}
 use Rattle.state.specs.declared.State.{State}
-use Rattle.state.specs.State.{mostJobs, mostObjects, mostProcessors, read, write, isObject, processorOf, declared, declaredAny, mayLock}
-use Rattle.state.specs.State.{holders, holdersAny, holdsAlready, isActive, hasUnlocked, isWaiting, requestedMode, requestedObject}
+use Rattle.state.specs.State.{mostJobs, mostObjects, mostProcessors, read, write, certify, isVersion, strongest, isObject, processorOf, declared, declaredAny, mayLock}
+use Rattle.state.specs.State.{holders, holdersAny, holds, isCertified, sharesWithNone, holdsAlready, isActive, hasUnlocked, isWaiting, requestedMode, requestedObject}
 
 -- "A table has 1 to 64 jobs, 1 to 8 processors and 1 to 128 objects."
 abbrev pub countsWithin : Counts → Bool
@@ -65,21 +65,27 @@ lockedOnce s o = disjoint (holders s read o) (holders s write o)
 unfoldable pub oneLockEach : State → Bool
 oneLockEach s = every mostObjects (lockedOnce s)
 
--- of object o's readers and writers: there is at most one writer, and no reader where there is one
-abbrev pub alone : ℕ → ℕ → Bool
-alone readers writers = atMostOne writers && (isEmpty writers || isEmpty readers)
+-- of object o's readers and writers: there is at most one writer, and no reader where there is one that shares with none
+abbrev pub alone : Bool → ℕ → ℕ → Bool
+alone none readers writers = atMostOne writers && (isEmpty writers || (not none || isEmpty readers))
 
 abbrev pub writtenAlone : State → ℕ → Bool
-writtenAlone s o = alone (holders s read o) (holders s write o)
+writtenAlone s o = alone (sharesWithNone s o) (holders s read o) (holders s write o)
 
--- "a write lock shares its object with no other"
+-- "a write lock shares its object with no other"; "of version 2 a write lock may share its object with others' read locks, a certify lock with none"
 unfoldable pub writersAlone : State → Bool
 writersAlone s = every mostObjects (writtenAlone s)
 
--- r is active, has not unlocked, and may be waiting for the lock on o in mode m: it is declared, and 17 would not refuse it
+-- "a job waiting to certify holds the write lock"
+abbrev pub holdsBefore : State → ℕ → ℕ → ℕ → Bool
+holdsBefore s m r o = not (eqb m certify) || holds s write r o
+
+-- r is active, has not unlocked, and may be waiting for the lock on o in mode m, one of the version's: it is declared, and 17 would not refuse it;
+-- "Not well formed are .. one of version 1 with a certify .. request"
 abbrev pub mayAwait : State → ℕ → ℕ → ℕ → Bool
 mayAwait s m r o =
-    between read write m && isObject s o && isActive s r && not (hasUnlocked s r) && mayLock s m r o && not (holdsAlready s m r o)
+    between read (strongest (s .counts .version)) m && isObject s o && isActive s r && not (hasUnlocked s r) && mayLock s m r o && not (holdsAlready s m r o)
+    && holdsBefore s m r o
 
 abbrev pub waitFits : State → ℕ → Bool
 waitFits s r = not (isWaiting s r) || mayAwait s (requestedMode s r) r (requestedObject s r)
@@ -92,7 +98,20 @@ waitsFit s = every mostJobs (waitFits s)
 unfoldable pub marksFit : State → Bool
 marksFit s = subset (s .unlocked) (s .active)
 
+-- "Not well formed are a state of a version that 3 refuses"
+abbrev pub versionFits : State → Bool
+versionFits s = isVersion (s .counts .version)
+
+-- object o is certified in version 2 alone, and only where it is written: a certify lock is a write lock with a mark
+abbrev pub certifyFits : State → ℕ → Bool
+certifyFits s o = not (isCertified s o) || (eqb (s .counts .version) 2 && not (isEmpty (holders s write o)))
+
+-- "and one of version 1 with a certify lock"
+unfoldable pub certifiesFit : State → Bool
+certifiesFit s = every mostObjects (certifyFits s)
+
 -- 8: "the state handed in isn't well formed"
 unfoldable pub wellFormed : State → Bool
 wellFormed s =
     countsFit s && processorsFit s && declarationsFit s && aboveIdle s && locksFit s && oneLockEach s && writersAlone s && waitsFit s && marksFit s
+    && versionFits s && certifiesFit s

@@ -20,12 +20,12 @@ use Rattle.ranks.specs.RankLaws.{member-pos, member-le, member-empty, first-som
 use Rattle.ranks.specs.RankLaws.{member-disjoint, one-member, member-one}
 use Rattle.ranks.specs.UnionLaws.{union-left, union-right, union-either, union-lt, subset-le, empty-union}
 use Rattle.state.specs.declared.State.{State}
-use Rattle.state.specs.State.{mostJobs, mostObjects, read, write, isObject, processorOf}
+use Rattle.state.specs.State.{mostJobs, mostObjects, markWords, read, write, certify, strongest, wordOf, placeOf, isObject, processorOf}
 use Rattle.state.specs.State.{declared, declaredAny, mayLock, holders, holdersAny}
-use Rattle.state.specs.State.{holds, holdsAlready, isActive, hasUnlocked, requestOf, requestedMode, requestedObject}
+use Rattle.state.specs.State.{holds, isCertified, sharesWithNone, holdsAlready, isActive, hasUnlocked, requestOf, requestedMode, requestedObject}
 use Rattle.state.specs.WellFormed.{processorFits, processorsFit, declarationFits, declarationsFit, ofJobs, declaredOfJobs, aboveIdle}
 use Rattle.state.specs.WellFormed.{heldByActive, heldByRight, locksFit, lockedOnce, oneLockEach, alone, writtenAlone, writersAlone}
-use Rattle.state.specs.WellFormed.{mayAwait, waitFits, waitsFit, marksFit, wellFormed}
+use Rattle.state.specs.WellFormed.{holdsBefore, mayAwait, waitFits, waitsFit, marksFit, certifyFits, certifiesFit, wellFormed}
 use Rattle.state.specs.Clauses.{Clauses, clauses, well-formed, counts-within, within-counts}
 use Rattle.state.specs.Modes.{either-mode}
 use Rattle.state.specs.Facts.{Sized, In, Alone, LockFacts, RequestFacts, Facts}
@@ -36,23 +36,25 @@ none-in set r e i = clash (ap (λ v. member v r) (sym e) ∙ i) (member-empty r)
 
 -- ---- who writes is alone
 
-alone-true : (k r w : ℕ) → r < 2 ^ k → w < 2 ^ k → Alone r w → alone r w ≡ true
-alone-true k r w hr hw f =
-    and-true _ _ (member-one k w hw (λ a b i j. f a b i .0 j)) (one-empty (eq-zero-or-pos w) (eq-zero-or-pos r))
+alone-true : (n : Bool) (k r w : ℕ) → r < 2 ^ k → w < 2 ^ k → Alone n r w → alone n r w ≡ true
+alone-true n k r w hr hw f =
+    and-true _ _ (member-one k w hw (λ a b i j. f a b i .0 j)) (unshared (eq-zero-or-pos w) (eq-zero-or-pos r) n f)
   where
-    one-empty : (w ≡ 0) ⊎ (0 < w) → (r ≡ 0) ⊎ (0 < r) → eqb w 0 || eqb r 0 ≡ true
-    one-empty (inl z) q = simp (eq-eqb w 0 z)
-    one-empty (inr p) (inl z) = or-right (eqb w 0) (eqb r 0) (eq-eqb r 0 z)
-    one-empty (inr p) (inr q) =
-        absurd (f (first k w) (first k r) (first-member k w (first-some k w p hw)) .1 (first-member k r (first-some k r q hr)))
+    unshared : (w ≡ 0) ⊎ (0 < w) → (r ≡ 0) ⊎ (0 < r) → (n : Bool) → Alone n r w → eqb w 0 || (not n || eqb r 0) ≡ true
+    unshared (inl z) q n g = simp (eq-eqb w 0 z)
+    unshared (inr p) (inl z) n g = or-right (eqb w 0) _ (or-right (not n) _ (eq-eqb r 0 z))
+    unshared (inr p) (inr q) false g = or-right (eqb w 0) _ refl
+    unshared (inr p) (inr q) true g =
+        absurd (g (first k w) (first k r) (first-member k w (first-some k w p hw)) .1 refl (first-member k r (first-some k r q hr)))
 
-true-alone : (r w : ℕ) → alone r w ≡ true → Alone r w
-true-alone r w e a b i =
-    (λ j. one-member w a b (and-left (atMostOne w) _ e) i j, λ j. go (eqb w 0) refl (and-right (atMostOne w) _ e) j)
+true-alone : (n : Bool) (r w : ℕ) → alone n r w ≡ true → Alone n r w
+true-alone n r w e a b i =
+    (λ j. one-member w a b (and-left (atMostOne w) _ e) i j, λ q j. go (eqb w 0) refl n q (and-right (atMostOne w) _ e) j)
   where
-    go : (t : Bool) → eqb w 0 ≡ t → t || eqb r 0 ≡ true → In r b → ⊥
-    go true q z j = none-in w a (eqb-true w 0 q) i
-    go false q z j = none-in r b (eqb-true r 0 z) j
+    go : (t : Bool) → eqb w 0 ≡ t → (n : Bool) → n ≡ true → t || (not n || eqb r 0) ≡ true → In r b → ⊥
+    go true p n y z j = none-in w a (eqb-true w 0 p) i
+    go false p true y z j = none-in r b (eqb-true r 0 z) j
+    go false p false y z j = clash refl (sym y)
 
 -- ---- the facts pass the test
 
@@ -104,15 +106,28 @@ module _ (s : State) (F : Facts s) where
   alone-test : (o : ℕ) → writtenAlone s o ≡ true
   alone-test o =
       let L = F .locks o in
-      alone-true (s .counts .jobs) (holders s read o) (holders s write o) (L .jobs read) (L .jobs write) (L .alone)
+      alone-true (sharesWithNone s o) (s .counts .jobs) (holders s read o) (holders s write o) (L .jobs read) (L .jobs write) (L .alone)
+
+  certify-test : (o : ℕ) → certifyFits s o ≡ true
+  certify-test o = go (isCertified s o) refl
+    where
+      go : (b : Bool) → isCertified s o ≡ b → not b || (eqb (s .counts .version) 2 && not (eqb (holders s write o) 0)) ≡ true
+      go false e = refl
+      go true e =
+          let c = F .locks o .certified e in
+          simp (eq-eqb (s .counts .version) 2 (c .0), ne-eqb (holders s write o) 0 (λ z. none-in (holders s write o) (c .1 .0) z (c .1 .1)))
 
   request-test : (m r o : ℕ) → RequestFacts s m r o → mayAwait s m r o ≡ true
   request-test m r o A =
-      let known = inside-between read write m (A .mode .0) (A .mode .1) in
+      let known = inside-between read (strongest (s .counts .version)) m (A .mode .0) (A .mode .1) in
       let object = inside-between 1 (s .counts .objects) o (A .object .0) (A .object .1) in
-      let asks : between read write m && isObject s o && isActive s r && not (hasUnlocked s r) && mayLock s m r o ≡ true =
+      let asks : between read (strongest (s .counts .version)) m && isObject s o && isActive s r && not (hasUnlocked s r) && mayLock s m r o ≡ true =
       simp (known, object, A .active, A .not-unlocked, A .right) in
-      and-true _ _ asks (ap not (A .new))
+      and-true _ _ (and-true _ _ asks (ap not (A .new))) (written (eqb m certify) refl)
+    where
+      written : (b : Bool) → eqb m certify ≡ b → not b || holds s write r o ≡ true
+      written true e = A .before (eqb-true m certify e)
+      written false e = refl
 
   wait-test : (r : ℕ) → waitFits s r ≡ true
   wait-test r = elim (ℕ-discrete (requestOf s r) 0) [
@@ -121,7 +136,7 @@ module _ (s : State) (F : Facts s) where
   ]
 
   facts-clauses : Clauses s
-  unfolding processorsFit declarationsFit oneLockEach writersAlone waitsFit marksFit
+  unfolding processorsFit declarationsFit oneLockEach writersAlone waitsFit marksFit certifiesFit
   facts-clauses =
       record {
         counts = within-counts (s .counts) (F .counts);
@@ -133,6 +148,8 @@ module _ (s : State) (F : Facts s) where
         alone = every-true mostObjects (writtenAlone s) (λ o a b. alone-test o);
         waits = every-true mostJobs (waitFits s) (λ r a b. wait-test r);
         marks = member-subset (s .counts .jobs) (s .unlocked) (s .active) (F .marks-jobs) (λ r l. F .marks r);
+        version = inside-between 1 2 (s .counts .version) (F .version .0) (F .version .1);
+        certifies = every-true mostObjects (certifyFits s) (λ o a b. certify-test o);
       }
 
   pub facts-well-formed : wellFormed s ≡ true
@@ -157,6 +174,10 @@ module _ (s : State) (z : Sized s) (w : wellFormed s ≡ true) where
   past-holders m o d =
       either-mode (λ f. f (at (s .readers) o) (at (s .writers) o) ≡ 0)
       (at-out (s .readers) mostObjects o (z .readers) d) (at-out (s .writers) mostObjects o (z .writers) d) m
+
+  past-certified : (o : ℕ) → ¬ ((1 ≤ o) × (o ≤ mostObjects)) → isCertified s o ≡ false
+  past-certified o d =
+      ap (λ v. member v (placeOf o)) (at-out (s .certified) markWords (wordOf o) (z .certified) (λ q. d (omega arith))) ∙ member-empty (placeOf o)
 
   -- what holds of both sets of declarations of an object holds of either mode's
   declared-part : (P : ℕ → Type 0) (o : ℕ) → P (declared s read o) → P (declared s write o) → (m : ℕ) → P (declared s m o)
@@ -194,7 +215,7 @@ module _ (s : State) (z : Sized s) (w : wellFormed s ≡ true) where
 
   -- the locks on an object of the arrays
   inside-locks : (o : ℕ) → 1 ≤ o → o ≤ mostObjects → LockFacts s o
-  unfolding locksFit oneLockEach writersAlone
+  unfolding locksFit oneLockEach writersAlone certifiesFit
   inside-locks o a b =
       let byActive = every-at mostObjects (heldByActive s) o (and-left _ _ (C .locks)) a b in
       let byRight = every-at mostObjects (heldByRight s) o (and-right (every mostObjects (heldByActive s)) _ (C .locks)) a b in
@@ -212,8 +233,27 @@ module _ (s : State) (z : Sized s) (w : wellFormed s ≡ true) where
         active = active;
         right = λ m r i. subset-member (holders s m o) (declared s m o) r (right m) i;
         once = λ r. disjoint-member reading writing r (every-at mostObjects (lockedOnce s) o (C .once) a b);
-        alone = true-alone reading writing (every-at mostObjects (writtenAlone s) o (C .alone) a b);
+        alone = true-alone (sharesWithNone s o) reading writing (every-at mostObjects (writtenAlone s) o (C .alone) a b);
+        certified = λ e. certified (isCertified s o) e (every-at mostObjects (certifyFits s) o (C .certifies) a b);
       }
+    where
+      certified : (b : Bool) → b ≡ true → not b || (eqb (s .counts .version) 2 && not (eqb (holders s write o) 0)) ≡ true
+          → (s .counts .version ≡ 2) × ((r : ℕ) × In (holders s write o) r)
+      certified false e t = absurd (clash e refl)
+      certified true e t =
+          let w = holders s write o in
+          let some : 0 < w =
+          elim (eq-zero-or-pos w) [ inl q ↦ absurd (clash (eq-eqb w 0 q) (not-true (eqb w 0) (and-right (eqb (s .counts .version) 2) _ t))) | inr q ↦ q ] in
+          let small : w < 2 ^ s .counts .jobs = omega (
+            arith,
+            subset-le w (declared s write o) (and-right (subset (holders s read o) (declared s read o)) _
+                (every-at mostObjects (heldByRight s) o (and-right (every mostObjects (heldByActive s)) _ (C .locks)) a b)),
+            declared-fact write o,
+          ) in
+          (
+            eqb-true (s .counts .version) 2 (and-left (eqb (s .counts .version) 2) _ t),
+            (first (s .counts .jobs) w, first-member (s .counts .jobs) w (first-some (s .counts .jobs) w some small)),
+          )
 
   outside-locks : (o : ℕ) → ¬ ((1 ≤ o) × (o ≤ mostObjects)) → LockFacts s o
   outside-locks o d = record {
@@ -222,26 +262,30 @@ module _ (s : State) (z : Sized s) (w : wellFormed s ≡ true) where
     right = λ m r i. absurd (none-in (holders s m o) r (past-holders m o d) i);
     once = λ r i. absurd (none-in (holders s read o) r (past-holders read o d) i);
     alone = λ a b i. absurd (none-in (holders s write o) a (past-holders write o d) i);
+    certified = λ e. absurd (clash e (past-certified o d));
   }
 
   request-fact : (m r o : ℕ) → mayAwait s m r o ≡ true → RequestFacts s m r o
   request-fact m r o e =
-      let t1 = between read write m in
+      let t1 = between read (strongest (s .counts .version)) m in
       let t2 = t1 && isObject s o in
       let t3 = t2 && isActive s r in
       let t4 = t3 && not (hasUnlocked s r) in
       let t5 = t4 && mayLock s m r o in
-      let e5 = and-left t5 (not (holdsAlready s m r o)) e in
+      let t6 = t5 && not (holdsAlready s m r o) in
+      let e6 = and-left t6 (holdsBefore s m r o) e in
+      let e5 = and-left t5 (not (holdsAlready s m r o)) e6 in
       let e4 = and-left t4 (mayLock s m r o) e5 in
       let e3 = and-left t3 (not (hasUnlocked s r)) e4 in
       let e2 = and-left t2 (isActive s r) e3 in
       record {
-        mode = between-true read write m (and-left t1 (isObject s o) e2);
+        mode = between-true read (strongest (s .counts .version)) m (and-left t1 (isObject s o) e2);
         object = between-true 1 (s .counts .objects) o (and-right t1 (isObject s o) e2);
         active = and-right t2 (isActive s r) e3;
         not-unlocked = not-true (hasUnlocked s r) (and-right t3 (not (hasUnlocked s r)) e4);
         right = and-right t4 (mayLock s m r o) e5;
-        new = not-true (holdsAlready s m r o) (and-right t5 (not (holdsAlready s m r o)) e);
+        new = not-true (holdsAlready s m r o) (and-right t5 (not (holdsAlready s m r o)) e6);
+        before = λ q. simp (eq-eqb m certify q) at (and-right t6 (holdsBefore s m r o) e);
       }
 
   waiting-fact : (r : ℕ) → requestOf s r ≢ 0 → RequestFacts s (requestedMode s r) r (requestedObject s r)
@@ -265,6 +309,7 @@ module _ (s : State) (z : Sized s) (w : wellFormed s ≡ true) where
     requests = waiting-fact;
     marks = λ r i. subset-member (s .unlocked) (s .active) r (C .marks) i;
     marks-jobs = omega (arith, subset-le (s .unlocked) (s .active) (C .marks), active-fact);
+    version = between-true 1 2 (s .counts .version) (C .version);
   }
 
 -- ---- locks and waiting jobs are of the table

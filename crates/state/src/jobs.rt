@@ -6,14 +6,16 @@ ghost use lib.Dec.{eqb};
 ghost use Rattle.basics.specs.Arrays.{at};
 ghost use Rattle.basics.specs.Choice.{between};
 ghost use Rattle.basics.specs.Loops.{every};
-ghost use Rattle.state.specs.State.{mostJobs, mostObjects, ofMode, stateOf};
+ghost use Rattle.state.specs.State.{mostJobs, mostObjects, isVersion, ofMode, stateOf};
 ghost use Rattle.state.specs.WellFormed.{countsWithin, processorsFit, mayAwait, waitFits, waitsFit};
 ghost use Rattle.state.specs.State.{modeOfRequest, objectOfRequest};
 ghost use Rattle.state.specs.Survey.{mayAsk};
 use crate::Counts;
 use crate::JobProcessors;
 use crate::JobRequests;
+use crate::ObjectMarks;
 use crate::Sets;
+use crate::is_marked;
 use ranks::RankSet;
 
 // Whether the number is one of low to high.
@@ -30,6 +32,13 @@ pub fn counts_within(counts: Counts) -> bool
     within(1, 8, counts.processors) & within(1, 64, counts.jobs) & within(1, 128, counts.objects)
 }
 
+// Whether there are tables of this version.
+pub fn is_version(version: u8) -> bool
+    ensures { λ r. ⌜ r ≡ isVersion version ⌝ }
+{
+    within(1, 2, version)
+}
+
 // The larger of two numbers.
 fn larger(a: u8, b: u8) -> u8
     ensures { λ r. ⌜ r ≡ max a b ⌝ }
@@ -40,7 +49,7 @@ fn larger(a: u8, b: u8) -> u8
 // Whether each job's processor is one of the table's.
 pub fn processors_fit(counts: Counts, processor_of: &JobProcessors) -> bool
     requires { ⌜ (1 ≤ counts .processors) × (counts .jobs ≤ mostJobs) ⌝ }
-    ensures { λ r. ⌜ r ≡ processorsFit (stateOf counts (now («processor_of» .entry)) [] [] 0 0 [] [] []) ⌝ }
+    ensures { λ r. ⌜ r ≡ processorsFit (stateOf counts (now («processor_of» .entry)) [] [] 0 0 [] [] [] []) ⌝ }
 {
     let processors = counts.processors;
     let count = counts.jobs as usize;
@@ -53,14 +62,14 @@ pub fn processors_fit(counts: Counts, processor_of: &JobProcessors) -> bool
     last < processors
 }
 
-// Of two sets, that of the mode: 1 read, 2 write.
+// Of two sets, that of the mode: 1 read, 2 write, 3 certify.
 pub fn of_mode(mode: u8, reading: RankSet, writing: RankSet) -> RankSet
     ensures { λ r. ⌜ r ≡ ofMode mode reading writing ⌝ }
 {
     if mode == 1 { reading } else { writing }
 }
 
-// Whether a rank may ask for an object with these sets in a mode: it has the right, and neither that lock nor the write lock.
+// Whether a rank may ask for an object with these sets in a mode: it has the right, neither that lock nor the write lock, and to certify the write lock alone.
 fn may_ask(
     mode: u8,
     rank: u8,
@@ -68,15 +77,21 @@ fn may_ask(
     may_write: RankSet,
     readers: RankSet,
     writers: RankSet,
+    certified: bool,
 ) -> bool
     requires { ⌜ (1 ≤ rank) × (rank ≤ mostJobs) ⌝ }
-    ensures { λ r. ⌜ r ≡ mayAsk mode rank «may_read» «may_write» readers writers ⌝ }
+    ensures { λ r. ⌜ r ≡ mayAsk mode rank «may_read» «may_write» readers writers certified ⌝ }
 {
-    ranks::contains(of_mode(mode, may_read, may_write), rank)
-        & !(ranks::contains(of_mode(mode, readers, writers), rank) | ranks::contains(writers, rank))
+    let right = ranks::contains(of_mode(mode, may_read, may_write), rank);
+    let written = ranks::contains(writers, rank);
+    if mode == 3 {
+        return right & written & !certified;
+    }
+    right & !(ranks::contains(of_mode(mode, readers, writers), rank) | written)
 }
 
-// Whether a rank may be waiting for the request: a lock of a mode on an object of the table that it may ask for, in a run without an unlock.
+// Whether a rank may be waiting for the request: a lock of one of the version's modes on an object of the table that it may ask for, in a run without an
+// unlock.
 fn may_await<'a>(
     counts: Counts,
     may_read: Sets<'a>,
@@ -85,16 +100,17 @@ fn may_await<'a>(
     unlocked: RankSet,
     readers: Sets<'a>,
     writers: Sets<'a>,
+    certified: &'a ObjectMarks,
     request: u16,
     rank: u8,
 ) -> bool
-    requires { ⌜ (counts .objects ≤ mostObjects) × (1 ≤ rank) × (rank ≤ mostJobs) ⌝ }
-    ensures { λ r. ⌜ r ≡ mayAwait (stateOf counts [] (now («may_read» .entry)) (now («may_write» .entry)) active unlocked (now (readers .entry)) (now (writers .entry)) [])
+    requires { ⌜ (counts .version ≤ 2) × (counts .objects ≤ mostObjects) × (1 ≤ rank) × (rank ≤ mostJobs) ⌝ }
+    ensures { λ r. ⌜ r ≡ mayAwait (stateOf counts [] (now («may_read» .entry)) (now («may_write» .entry)) active unlocked (now (readers .entry)) (now (writers .entry)) (now (certified .entry)) [])
         (modeOfRequest request) rank (objectOfRequest request) ⌝ }
 {
     let mode = (request / 256) as u8;
     let object = (request % 256) as u8;
-    if !(within(1, 2, mode) & within(1, counts.objects, object)) {
+    if !(within(1, counts.version + 1, mode) & within(1, counts.objects, object)) {
         return false;
     }
     let i = (object - 1) as usize;
@@ -107,6 +123,7 @@ fn may_await<'a>(
             may_write[i],
             readers[i],
             writers[i],
+            is_marked(certified, object),
         )
 }
 
@@ -133,11 +150,12 @@ fn four_fit<'a>(
     unlocked: RankSet,
     readers: Sets<'a>,
     writers: Sets<'a>,
+    certified: &'a ObjectMarks,
     request: &'a JobRequests,
     from: usize,
 ) -> bool
-    requires { ⌜ (counts .objects ≤ mostObjects) × (from + 4 ≤ mostJobs) ⌝ }
-    ensures { λ r. ⌜ r ≡ every 4 (λ k. waitFits (stateOf counts [] (now («may_read» .entry)) (now («may_write» .entry)) active unlocked (now (readers .entry)) (now (writers .entry)) (now (request .entry))) (from + k)) ⌝ }
+    requires { ⌜ (counts .version ≤ 2) × (counts .objects ≤ mostObjects) × (from + 4 ≤ mostJobs) ⌝ }
+    ensures { λ r. ⌜ r ≡ every 4 (λ k. waitFits (stateOf counts [] (now («may_read» .entry)) (now («may_write» .entry)) active unlocked (now (readers .entry)) (now (writers .entry)) (now (certified .entry)) (now (request .entry))) (from + k)) ⌝ }
 {
     if none_waits(request, from, 4) {
         return true;
@@ -155,6 +173,7 @@ fn four_fit<'a>(
                 unlocked,
                 readers,
                 writers,
+                certified,
                 asked,
                 (from + k) as u8,
             ) {
@@ -174,10 +193,11 @@ pub fn waits_fit<'a>(
     unlocked: RankSet,
     readers: Sets<'a>,
     writers: Sets<'a>,
+    certified: &'a ObjectMarks,
     request: &'a JobRequests,
 ) -> bool
-    requires { ⌜ counts .objects ≤ mostObjects ⌝ }
-    ensures { λ r. ⌜ r ≡ waitsFit (stateOf counts [] (now («may_read» .entry)) (now («may_write» .entry)) active unlocked (now (readers .entry)) (now (writers .entry)) (now (request .entry))) ⌝ }
+    requires { ⌜ (counts .version ≤ 2) × (counts .objects ≤ mostObjects) ⌝ }
+    ensures { λ r. ⌜ r ≡ waitsFit (stateOf counts [] (now («may_read» .entry)) (now («may_write» .entry)) active unlocked (now (readers .entry)) (now (writers .entry)) (now (certified .entry)) (now (request .entry))) ⌝ }
 {
     if none_waits(request, 0, 64) {
         return true;
@@ -192,6 +212,7 @@ pub fn waits_fit<'a>(
             unlocked,
             readers,
             writers,
+            certified,
             request,
             from,
         ) {

@@ -3,24 +3,31 @@ ghost use mathlib.Core.Path.{_≡_};
 ghost use mathlib.Core.Bool.{_&&_};
 ghost use lib.Dec.{eqb};
 ghost use lib.ListN.{length};
-ghost use Rattle.state.specs.State.{mostJobs, mostObjects, stateOf};
+ghost use Rattle.state.specs.State.{mostJobs, mostObjects, markWords, stateOf};
 ghost use Rattle.state.specs.WellFormed.{wellFormed};
 ghost use Rattle.state.specs.Facts.{Sized};
 
 mod jobs;
 mod locks;
+mod marks;
 
 pub use jobs::counts_within;
+pub use jobs::is_version;
 pub use jobs::of_mode;
 use jobs::processors_fit;
 use jobs::waits_fit;
 pub use jobs::within;
 use locks::survey_objects;
+pub use locks::union_of;
 use locks::union_outside;
+use marks::certified_well;
+pub use marks::is_marked;
+pub use marks::shares_with_none;
 use ranks::RankSet;
 
-// How many processors, jobs and objects a table has.
+// A table's version, and how many processors, jobs and objects it has.
 pub struct Counts {
+    pub version: u8,
     pub processors: u8,
     pub jobs: u8,
     pub objects: u8,
@@ -32,6 +39,9 @@ pub type JobProcessors = [u8; 64];
 pub type JobRequests = [u16; 64];
 
 pub type ObjectSets = [RankSet; 128];
+
+// A set of objects: object o is bit (o - 1) % 64 of word (o - 1) / 64.
+pub type ObjectMarks = [u64; 2];
 
 // A set of ranks for each object, lent to be read, and lent to be changed.
 pub type Sets<'a> = &'a ObjectSets;
@@ -48,6 +58,7 @@ pub struct State {
     pub unlocked: RankSet,
     pub readers: ObjectSets,
     pub writers: ObjectSets,
+    pub certified: ObjectMarks,
     pub request: JobRequests,
 }
 
@@ -61,23 +72,32 @@ pub fn fits<'a>(
     unlocked: RankSet,
     readers: Sets<'a>,
     writers: Sets<'a>,
+    certified: &'a ObjectMarks,
     request: &'a JobRequests,
 ) -> bool
     ensures { λ r. ⌜ r ≡ wellFormed (stateOf counts (now («processor_of» .entry)) (now («may_read» .entry)) (now («may_write» .entry))
-        active unlocked (now (readers .entry)) (now (writers .entry)) (now (request .entry))) ⌝ }
+        active unlocked (now (readers .entry)) (now (writers .entry)) (now (certified .entry)) (now (request .entry))) ⌝ }
 {
-    if !counts_within(counts) {
+    if !(counts_within(counts) & is_version(counts.version)) {
         return false;
     }
     let all = ranks::up_to(counts.jobs);
     let outside = union_outside(may_read, may_write, readers, writers, counts.objects);
-    let seen = survey_objects(may_read, may_write, readers, writers, counts.objects);
+    let seen = survey_objects(
+        counts.version == 1,
+        may_read,
+        may_write,
+        readers,
+        writers,
+        counts.objects,
+    );
     ranks::is_empty(seen.wrong)
         & ranks::is_empty(outside)
         & ranks::is_subset(seen.declared, all)
         & ranks::is_subset(seen.held, active)
         & ranks::is_subset(active, all)
         & ranks::is_subset(unlocked, active)
+        & certified_well(counts.version, readers, writers, certified)
         & processors_fit(counts, processor_of)
         & waits_fit(
             counts,
@@ -87,6 +107,7 @@ pub fn fits<'a>(
             unlocked,
             readers,
             writers,
+            certified,
             request,
         )
 }
@@ -98,16 +119,19 @@ fn have_lengths<'a>(
     may_write: &'a [RankSet],
     readers: &'a [RankSet],
     writers: &'a [RankSet],
+    certified: &'a [u64],
     request: &'a [u16],
 ) -> bool
     ensures { λ r. ⌜ r ≡ (eqb (length (now («processor_of» .entry))) mostJobs && eqb (length (now («may_read» .entry))) mostObjects && eqb (length (now («may_write» .entry))) mostObjects
-        && eqb (length (now (readers .entry))) mostObjects && eqb (length (now (writers .entry))) mostObjects && eqb (length (now (request .entry))) mostJobs) ⌝ }
+        && eqb (length (now (readers .entry))) mostObjects && eqb (length (now (writers .entry))) mostObjects && eqb (length (now (certified .entry))) markWords
+        && eqb (length (now (request .entry))) mostJobs) ⌝ }
 {
     (processor_of.len() == 64)
         & (may_read.len() == 128)
         & (may_write.len() == 128)
         & (readers.len() == 128)
         & (writers.len() == 128)
+        & (certified.len() == 2)
         & (request.len() == 64)
 }
 
@@ -121,14 +145,15 @@ pub fn fits_sized<'a>(
     unlocked: RankSet,
     readers: Sets<'a>,
     writers: Sets<'a>,
+    certified: &'a ObjectMarks,
     request: &'a JobRequests,
 ) -> bool
     ensures { λ r. ⌜ (r ≡ wellFormed (stateOf counts (now («processor_of» .entry)) (now («may_read» .entry)) (now («may_write» .entry))
-        active unlocked (now (readers .entry)) (now (writers .entry)) (now (request .entry))))
+        active unlocked (now (readers .entry)) (now (writers .entry)) (now (certified .entry)) (now (request .entry))))
         × Sized (stateOf counts (now («processor_of» .entry)) (now («may_read» .entry)) (now («may_write» .entry))
-        active unlocked (now (readers .entry)) (now (writers .entry)) (now (request .entry))) ⌝ }
+        active unlocked (now (readers .entry)) (now (writers .entry)) (now (certified .entry)) (now (request .entry))) ⌝ }
 {
-    have_lengths(processor_of, may_read, may_write, readers, writers, request)
+    have_lengths(processor_of, may_read, may_write, readers, writers, certified, request)
         & fits(
             counts,
             processor_of,
@@ -138,6 +163,7 @@ pub fn fits_sized<'a>(
             unlocked,
             readers,
             writers,
+            certified,
             request,
         )
 }
@@ -152,6 +178,7 @@ pub fn is_well_formed(state: State) -> bool
     let may_write = state.may_write;
     let readers = state.readers;
     let writers = state.writers;
+    let certified = state.certified;
     let request = state.request;
     fits(
         counts,
@@ -162,6 +189,7 @@ pub fn is_well_formed(state: State) -> bool
         state.unlocked,
         &readers,
         &writers,
+        &certified,
         &request,
     )
 }

@@ -5,7 +5,7 @@ ghost use Rattle.basics.specs.Arrays.{at};
 ghost use Rattle.basics.specs.Loops.{every};
 ghost use Rattle.ranks.specs.Ranks.{isEmpty, unions};
 ghost use Rattle.state.specs.State.{mostObjects};
-ghost use Rattle.state.specs.Survey.{inOrder, blockSize, objectInOrder, allOf, Surveyed};
+ghost use Rattle.state.specs.Survey.{apart, inOrder, blockSize, objectInOrder, allOf, Surveyed};
 use crate::Sets;
 use ranks::EMPTY;
 use ranks::RankSet;
@@ -18,28 +18,42 @@ pub struct Survey {
     pub wrong: RankSet,
 }
 
-// Empty if one object's locks have their rights, and a write lock is alone.
+// Empty if an object's write lock is alone; where write locks may be shared, if it is the only one and its holder does not read.
+fn sharing_wrong(alone: bool, readers: RankSet, writers: RankSet) -> RankSet
+    ensures { λ r. ⌜ isEmpty r ≡ apart alone readers writers ⌝ }
+{
+    if alone {
+        union(
+            ranks::minus(readers, ranks::less_one(writers)),
+            ranks::common(writers, ranks::less_one(union(readers, writers))),
+        )
+    } else {
+        union(
+            ranks::common(readers, writers),
+            ranks::common(writers, ranks::less_one(writers)),
+        )
+    }
+}
+
+// Empty if one object's locks have their rights, and a write lock is alone or, where it may be shared, the only one.
 fn object_wrong(
+    alone: bool,
     may_read: RankSet,
     may_write: RankSet,
     readers: RankSet,
     writers: RankSet,
 ) -> RankSet
-    ensures { λ r. ⌜ isEmpty r ≡ inOrder «may_read» «may_write» readers writers ⌝ }
+    ensures { λ r. ⌜ isEmpty r ≡ inOrder alone «may_read» «may_write» readers writers ⌝ }
 {
-    let reading = union(
+    let without_right = union(
         ranks::minus(readers, may_read),
-        ranks::minus(readers, ranks::less_one(writers)),
-    );
-    let writing = union(
         ranks::minus(writers, may_write),
-        ranks::common(writers, ranks::less_one(union(readers, writers))),
     );
-    union(reading, writing)
+    union(without_right, sharing_wrong(alone, readers, writers))
 }
 
 // The ranks in so many sets, from an index on.
-fn union_of(sets: Sets, from: usize, count: usize) -> RankSet
+pub fn union_of(sets: Sets, from: usize, count: usize) -> RankSet
     requires { ⌜ from + count ≤ mostObjects ⌝ }
     ensures { λ r. ⌜ r ≡ unions count (λ k. at (now (sets .entry)) (from + k)) ⌝ }
 {
@@ -54,6 +68,7 @@ fn union_of(sets: Sets, from: usize, count: usize) -> RankSet
 
 // Empty if each object of the block from an index on is in order.
 fn block_wrong<'a>(
+    alone: bool,
     may_read: Sets<'a>,
     may_write: Sets<'a>,
     readers: Sets<'a>,
@@ -61,7 +76,7 @@ fn block_wrong<'a>(
     from: usize,
 ) -> RankSet
     requires { ⌜ from + blockSize ≤ mostObjects ⌝ }
-    ensures { λ r. ⌜ isEmpty r ≡ every blockSize (λ k. objectInOrder (now («may_read» .entry)) (now («may_write» .entry)) (now (readers .entry)) (now (writers .entry)) (from + k)) ⌝ }
+    ensures { λ r. ⌜ isEmpty r ≡ every blockSize (λ k. objectInOrder (now («may_read» .entry)) (now («may_write» .entry)) (now (readers .entry)) (now (writers .entry)) alone (from + k)) ⌝ }
 {
     let mut wrong = EMPTY;
     let mut k = 0;
@@ -69,15 +84,17 @@ fn block_wrong<'a>(
         let i = from + k;
         wrong = union(
             wrong,
-            object_wrong(may_read[i], may_write[i], readers[i], writers[i]),
+            object_wrong(alone, may_read[i], may_write[i], readers[i], writers[i]),
         );
         k += 1;
     }
     wrong
 }
 
-// What the objects of a table of so many objects say together. Locks are looked at in whole blocks, and one by one only where a block has some.
+// What the objects of a table of so many objects, in which write locks are alone or may be shared, say together. Locks are looked at in whole blocks,
+// and one by one only where a block has some.
 pub fn survey_objects<'a>(
+    alone: bool,
     may_read: Sets<'a>,
     may_write: Sets<'a>,
     readers: Sets<'a>,
@@ -85,7 +102,7 @@ pub fn survey_objects<'a>(
     objects: u8,
 ) -> Survey
     requires { ⌜ objects ≤ mostObjects ⌝ }
-    ensures { λ r. ⌜ Surveyed (now («may_read» .entry)) (now («may_write» .entry)) (now (readers .entry)) (now (writers .entry)) objects r ⌝ }
+    ensures { λ r. ⌜ Surveyed (now («may_read» .entry)) (now («may_write» .entry)) (now (readers .entry)) (now (writers .entry)) alone objects r ⌝ }
 {
     let count = objects as usize;
     let declared = union(union_of(may_read, 0, count), union_of(may_write, 0, count));
@@ -96,7 +113,7 @@ pub fn survey_objects<'a>(
         let locks = union(union_of(readers, i, 8), union_of(writers, i, 8));
         if !ranks::is_empty(locks) {
             held = union(held, locks);
-            wrong = union(wrong, block_wrong(may_read, may_write, readers, writers, i));
+            wrong = union(wrong, block_wrong(alone, may_read, may_write, readers, writers, i));
         }
         i += 8;
     }

@@ -82,6 +82,7 @@ fn answer(bench: Bench, count: usize, bytes: &[u8], lines: &mut [u8]) -> Advance
     let mut unlocked = state.unlocked;
     let mut readers = state.readers;
     let mut writers = state.writers;
+    let mut certified = state.certified;
     let mut request = state.request;
     let used = 3 * count;
     let laid = lay_events(
@@ -93,6 +94,7 @@ fn answer(bench: Bench, count: usize, bytes: &[u8], lines: &mut [u8]) -> Advance
         &mut unlocked,
         &mut readers,
         &mut writers,
+        &mut certified,
         &mut request,
         lines,
         bench.events,
@@ -103,6 +105,7 @@ fn answer(bench: Bench, count: usize, bytes: &[u8], lines: &mut [u8]) -> Advance
     next.unlocked = unlocked;
     next.readers = readers;
     next.writers = writers;
+    next.certified = certified;
     next.request = request;
     let after = Bench {
         refusal: 0,
@@ -121,6 +124,7 @@ pub fn unread() -> Bench
     ensures { λ r. ⌜ r ≡ unread ⌝ }
 {
     let counts = Counts {
+        version: 0,
         processors: 0,
         jobs: 0,
         objects: 0,
@@ -134,6 +138,7 @@ pub fn unread() -> Bench
         unlocked: ranks::EMPTY,
         readers: [0; 128],
         writers: [0; 128],
+        certified: [0; 2],
         request: [0; 64],
     };
     Bench {

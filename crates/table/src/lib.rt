@@ -44,6 +44,7 @@ fn fresh_state(
         unlocked: EMPTY,
         readers: [0; 128],
         writers: [0; 128],
+        certified: [0; 2],
         request: [0; 64],
     }
 }
@@ -53,6 +54,7 @@ fn zero_state() -> State
     ensures { λ r. ⌜ r ≡ zeroState ⌝ }
 {
     let counts = Counts {
+        version: 0,
         processors: 0,
         jobs: 0,
         objects: 0,

@@ -15,11 +15,13 @@ use ranks::RankSet;
 use state::Counts;
 use state::JobProcessors;
 use state::JobRequests;
+use state::ObjectMarks;
 use state::Sets;
 
 // A job's inherited rank. Refused by 8, 10, 13.
 #[no_mangle]
 pub extern "C" fn vongselik_parts_inherited_rank<'a>(
+    version: u8,
     processors: u8,
     jobs: u8,
     objects: u8,
@@ -30,16 +32,18 @@ pub extern "C" fn vongselik_parts_inherited_rank<'a>(
     unlocked: RankSet,
     readers: Sets<'a>,
     writers: Sets<'a>,
+    certified: &'a ObjectMarks,
     request: &'a JobRequests,
     rank: u8,
     inherited: &mut u8,
 ) -> u8
-    ensures number { λ r. ⌜ r ≡ rankReply (Q.askInheritedRank (stateOf (countsOf processors jobs objects) (now («processor_of» .entry)) (now («may_read» .entry)) (now («may_write» .entry))
-        active unlocked (now (readers .entry)) (now (writers .entry)) (now (request .entry))) rank) .refusal ⌝ }
-    ensures inherited { λ _. ⌜ now (inherited .exit) ≡ value (rankReply (Q.askInheritedRank (stateOf (countsOf processors jobs objects) (now («processor_of» .entry)) (now («may_read» .entry)) (now («may_write» .entry))
-        active unlocked (now (readers .entry)) (now (writers .entry)) (now (request .entry))) rank)) 0 (now (inherited .entry)) ⌝ }
+    ensures number { λ r. ⌜ r ≡ rankReply (Q.askInheritedRank (stateOf (countsOf version processors jobs objects) (now («processor_of» .entry)) (now («may_read» .entry)) (now («may_write» .entry))
+        active unlocked (now (readers .entry)) (now (writers .entry)) (now (certified .entry)) (now (request .entry))) rank) .refusal ⌝ }
+    ensures inherited { λ _. ⌜ now (inherited .exit) ≡ value (rankReply (Q.askInheritedRank (stateOf (countsOf version processors jobs objects) (now («processor_of» .entry)) (now («may_read» .entry)) (now («may_write» .entry))
+        active unlocked (now (readers .entry)) (now (writers .entry)) (now (certified .entry)) (now (request .entry))) rank)) 0 (now (inherited .entry)) ⌝ }
 {
     let counts = Counts {
+        version,
         processors,
         jobs,
         objects,
@@ -53,6 +57,7 @@ pub extern "C" fn vongselik_parts_inherited_rank<'a>(
         unlocked,
         readers,
         writers,
+        certified,
         request,
         rank,
     );
@@ -68,6 +73,7 @@ pub extern "C" fn vongselik_parts_inherited_rank<'a>(
 // The lock that a job names: its holder and object, 0 and 0 if it names nobody. Refused by 8, 10, 13.
 #[no_mangle]
 pub extern "C" fn vongselik_parts_named_lock<'a>(
+    version: u8,
     processors: u8,
     jobs: u8,
     objects: u8,
@@ -78,19 +84,21 @@ pub extern "C" fn vongselik_parts_named_lock<'a>(
     unlocked: RankSet,
     readers: Sets<'a>,
     writers: Sets<'a>,
+    certified: &'a ObjectMarks,
     request: &'a JobRequests,
     rank: u8,
     holder: &mut u8,
     object: &mut u8,
 ) -> u8
-    ensures number { λ r. ⌜ r ≡ namedReply (Q.askNamedLock (stateOf (countsOf processors jobs objects) (now («processor_of» .entry)) (now («may_read» .entry)) (now («may_write» .entry))
-        active unlocked (now (readers .entry)) (now (writers .entry)) (now (request .entry))) rank) .refusal ⌝ }
-    ensures holder { λ _. ⌜ now (holder .exit) ≡ value (namedReply (Q.askNamedLock (stateOf (countsOf processors jobs objects) (now («processor_of» .entry)) (now («may_read» .entry)) (now («may_write» .entry))
-        active unlocked (now (readers .entry)) (now (writers .entry)) (now (request .entry))) rank)) 0 (now (holder .entry)) ⌝ }
-    ensures object { λ _. ⌜ now (object .exit) ≡ value (namedReply (Q.askNamedLock (stateOf (countsOf processors jobs objects) (now («processor_of» .entry)) (now («may_read» .entry)) (now («may_write» .entry))
-        active unlocked (now (readers .entry)) (now (writers .entry)) (now (request .entry))) rank)) 1 (now (object .entry)) ⌝ }
+    ensures number { λ r. ⌜ r ≡ namedReply (Q.askNamedLock (stateOf (countsOf version processors jobs objects) (now («processor_of» .entry)) (now («may_read» .entry)) (now («may_write» .entry))
+        active unlocked (now (readers .entry)) (now (writers .entry)) (now (certified .entry)) (now (request .entry))) rank) .refusal ⌝ }
+    ensures holder { λ _. ⌜ now (holder .exit) ≡ value (namedReply (Q.askNamedLock (stateOf (countsOf version processors jobs objects) (now («processor_of» .entry)) (now («may_read» .entry)) (now («may_write» .entry))
+        active unlocked (now (readers .entry)) (now (writers .entry)) (now (certified .entry)) (now (request .entry))) rank)) 0 (now (holder .entry)) ⌝ }
+    ensures object { λ _. ⌜ now (object .exit) ≡ value (namedReply (Q.askNamedLock (stateOf (countsOf version processors jobs objects) (now («processor_of» .entry)) (now («may_read» .entry)) (now («may_write» .entry))
+        active unlocked (now (readers .entry)) (now (writers .entry)) (now (certified .entry)) (now (request .entry))) rank)) 1 (now (object .entry)) ⌝ }
 {
     let counts = Counts {
+        version,
         processors,
         jobs,
         objects,
@@ -104,6 +112,7 @@ pub extern "C" fn vongselik_parts_named_lock<'a>(
         unlocked,
         readers,
         writers,
+        certified,
         request,
         rank,
     );
@@ -123,6 +132,7 @@ pub extern "C" fn vongselik_parts_named_lock<'a>(
 // An object's write ceiling and absolute ceiling. Refused by 8, 11.
 #[no_mangle]
 pub extern "C" fn vongselik_parts_ceilings<'a>(
+    version: u8,
     processors: u8,
     jobs: u8,
     objects: u8,
@@ -133,19 +143,21 @@ pub extern "C" fn vongselik_parts_ceilings<'a>(
     unlocked: RankSet,
     readers: Sets<'a>,
     writers: Sets<'a>,
+    certified: &'a ObjectMarks,
     request: &'a JobRequests,
     object: u8,
     write_ceiling: &mut u16,
     absolute_ceiling: &mut u16,
 ) -> u8
-    ensures number { λ r. ⌜ r ≡ ceilingsReply (Q.askCeilings (stateOf (countsOf processors jobs objects) (now («processor_of» .entry)) (now («may_read» .entry)) (now («may_write» .entry))
-        active unlocked (now (readers .entry)) (now (writers .entry)) (now (request .entry))) object) .refusal ⌝ }
-    ensures write { λ _. ⌜ now («write_ceiling» .exit) ≡ value (ceilingsReply (Q.askCeilings (stateOf (countsOf processors jobs objects) (now («processor_of» .entry)) (now («may_read» .entry)) (now («may_write» .entry))
-        active unlocked (now (readers .entry)) (now (writers .entry)) (now (request .entry))) object)) 0 (now («write_ceiling» .entry)) ⌝ }
-    ensures absolute { λ _. ⌜ now («absolute_ceiling» .exit) ≡ value (ceilingsReply (Q.askCeilings (stateOf (countsOf processors jobs objects) (now («processor_of» .entry)) (now («may_read» .entry)) (now («may_write» .entry))
-        active unlocked (now (readers .entry)) (now (writers .entry)) (now (request .entry))) object)) 1 (now («absolute_ceiling» .entry)) ⌝ }
+    ensures number { λ r. ⌜ r ≡ ceilingsReply (Q.askCeilings (stateOf (countsOf version processors jobs objects) (now («processor_of» .entry)) (now («may_read» .entry)) (now («may_write» .entry))
+        active unlocked (now (readers .entry)) (now (writers .entry)) (now (certified .entry)) (now (request .entry))) object) .refusal ⌝ }
+    ensures write { λ _. ⌜ now («write_ceiling» .exit) ≡ value (ceilingsReply (Q.askCeilings (stateOf (countsOf version processors jobs objects) (now («processor_of» .entry)) (now («may_read» .entry)) (now («may_write» .entry))
+        active unlocked (now (readers .entry)) (now (writers .entry)) (now (certified .entry)) (now (request .entry))) object)) 0 (now («write_ceiling» .entry)) ⌝ }
+    ensures absolute { λ _. ⌜ now («absolute_ceiling» .exit) ≡ value (ceilingsReply (Q.askCeilings (stateOf (countsOf version processors jobs objects) (now («processor_of» .entry)) (now («may_read» .entry)) (now («may_write» .entry))
+        active unlocked (now (readers .entry)) (now (writers .entry)) (now (certified .entry)) (now (request .entry))) object)) 1 (now («absolute_ceiling» .entry)) ⌝ }
 {
     let counts = Counts {
+        version,
         processors,
         jobs,
         objects,
@@ -159,6 +171,7 @@ pub extern "C" fn vongselik_parts_ceilings<'a>(
         unlocked,
         readers,
         writers,
+        certified,
         request,
         object,
     );
@@ -175,6 +188,7 @@ pub extern "C" fn vongselik_parts_ceilings<'a>(
 // The rank that a processor runs, 0 if it is idle. Refused by 8, 19.
 #[no_mangle]
 pub extern "C" fn vongselik_parts_running<'a>(
+    version: u8,
     processors: u8,
     jobs: u8,
     objects: u8,
@@ -185,16 +199,18 @@ pub extern "C" fn vongselik_parts_running<'a>(
     unlocked: RankSet,
     readers: Sets<'a>,
     writers: Sets<'a>,
+    certified: &'a ObjectMarks,
     request: &'a JobRequests,
     processor: u8,
     rank: &mut u8,
 ) -> u8
-    ensures number { λ r. ⌜ r ≡ rankReply (Q.askRunning (stateOf (countsOf processors jobs objects) (now («processor_of» .entry)) (now («may_read» .entry)) (now («may_write» .entry))
-        active unlocked (now (readers .entry)) (now (writers .entry)) (now (request .entry))) processor) .refusal ⌝ }
-    ensures rank { λ _. ⌜ now (rank .exit) ≡ value (rankReply (Q.askRunning (stateOf (countsOf processors jobs objects) (now («processor_of» .entry)) (now («may_read» .entry)) (now («may_write» .entry))
-        active unlocked (now (readers .entry)) (now (writers .entry)) (now (request .entry))) processor)) 0 (now (rank .entry)) ⌝ }
+    ensures number { λ r. ⌜ r ≡ rankReply (Q.askRunning (stateOf (countsOf version processors jobs objects) (now («processor_of» .entry)) (now («may_read» .entry)) (now («may_write» .entry))
+        active unlocked (now (readers .entry)) (now (writers .entry)) (now (certified .entry)) (now (request .entry))) processor) .refusal ⌝ }
+    ensures rank { λ _. ⌜ now (rank .exit) ≡ value (rankReply (Q.askRunning (stateOf (countsOf version processors jobs objects) (now («processor_of» .entry)) (now («may_read» .entry)) (now («may_write» .entry))
+        active unlocked (now (readers .entry)) (now (writers .entry)) (now (certified .entry)) (now (request .entry))) processor)) 0 (now (rank .entry)) ⌝ }
 {
     let counts = Counts {
+        version,
         processors,
         jobs,
         objects,
@@ -208,6 +224,7 @@ pub extern "C" fn vongselik_parts_running<'a>(
         unlocked,
         readers,
         writers,
+        certified,
         request,
         processor,
     );

@@ -16,6 +16,7 @@ use ranks::RankSet;
 use state::Counts;
 use state::JobProcessors;
 use state::JobRequests;
+use state::ObjectMarks;
 use state::Sets;
 use state::SetsMut;
 use state::fits;
@@ -23,6 +24,7 @@ use state::fits;
 // An event: its answer packed into a number that can be taken apart again, and the parts of the next state. A refusal, by 8 to 18 or 21, leaves every part as it was.
 #[no_mangle]
 pub extern "C" fn vongselik_parts_event<'a>(
+    version: u8,
     processors: u8,
     jobs: u8,
     objects: u8,
@@ -33,21 +35,23 @@ pub extern "C" fn vongselik_parts_event<'a>(
     unlocked: &mut RankSet,
     readers: SetsMut,
     writers: SetsMut,
+    certified: &mut ObjectMarks,
     request: &mut JobRequests,
     kind: u8,
     rank: u8,
     object: u8,
 ) -> u32
-    ensures answer { λ r. ⌜ r ≡ packed (step (stateOf (countsOf processors jobs objects) (now («processor_of» .entry)) (now («may_read» .entry)) (now («may_write» .entry))
-        (now (active .entry)) (now (unlocked .entry)) (now (readers .entry)) (now (writers .entry)) (now (request .entry))) kind rank object .answer) ⌝ }
-    ensures apart { λ r. ⌜ unpacked r ≡ paper (step (stateOf (countsOf processors jobs objects) (now («processor_of» .entry)) (now («may_read» .entry)) (now («may_write» .entry))
-        (now (active .entry)) (now (unlocked .entry)) (now (readers .entry)) (now (writers .entry)) (now (request .entry))) kind rank object .answer) ⌝ }
-    ensures next { λ _. ⌜ stateOf (countsOf processors jobs objects) (now («processor_of» .entry)) (now («may_read» .entry)) (now («may_write» .entry))
-        (now (active .exit)) (now (unlocked .exit)) (now (readers .exit)) (now (writers .exit)) (now (request .exit))
-        ≡ step (stateOf (countsOf processors jobs objects) (now («processor_of» .entry)) (now («may_read» .entry)) (now («may_write» .entry))
-        (now (active .entry)) (now (unlocked .entry)) (now (readers .entry)) (now (writers .entry)) (now (request .entry))) kind rank object .state ⌝ }
+    ensures answer { λ r. ⌜ r ≡ packed (step (stateOf (countsOf version processors jobs objects) (now («processor_of» .entry)) (now («may_read» .entry)) (now («may_write» .entry))
+        (now (active .entry)) (now (unlocked .entry)) (now (readers .entry)) (now (writers .entry)) (now (certified .entry)) (now (request .entry))) kind rank object .answer) ⌝ }
+    ensures apart { λ r. ⌜ unpacked r ≡ paper (step (stateOf (countsOf version processors jobs objects) (now («processor_of» .entry)) (now («may_read» .entry)) (now («may_write» .entry))
+        (now (active .entry)) (now (unlocked .entry)) (now (readers .entry)) (now (writers .entry)) (now (certified .entry)) (now (request .entry))) kind rank object .answer) ⌝ }
+    ensures next { λ _. ⌜ stateOf (countsOf version processors jobs objects) (now («processor_of» .entry)) (now («may_read» .entry)) (now («may_write» .entry))
+        (now (active .exit)) (now (unlocked .exit)) (now (readers .exit)) (now (writers .exit)) (now (certified .exit)) (now (request .exit))
+        ≡ step (stateOf (countsOf version processors jobs objects) (now («processor_of» .entry)) (now («may_read» .entry)) (now («may_write» .entry))
+        (now (active .entry)) (now (unlocked .entry)) (now (readers .entry)) (now (writers .entry)) (now (certified .entry)) (now (request .entry))) kind rank object .state ⌝ }
 {
     let counts = Counts {
+        version,
         processors,
         jobs,
         objects,
@@ -61,6 +65,7 @@ pub extern "C" fn vongselik_parts_event<'a>(
         *unlocked,
         readers,
         writers,
+        certified,
         request,
     );
     manager::act_packed(
@@ -73,6 +78,7 @@ pub extern "C" fn vongselik_parts_event<'a>(
         unlocked,
         readers,
         writers,
+        certified,
         request,
         kind,
         rank,

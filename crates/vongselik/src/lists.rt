@@ -8,6 +8,7 @@ use ranks::RankSet;
 use state::Counts;
 use state::JobProcessors;
 use state::JobRequests;
+use state::ObjectMarks;
 use state::Sets;
 use state::SetsMut;
 
@@ -15,6 +16,7 @@ use state::SetsMut;
 // the parts of the state behind them, as by a call for each; the state is tested once. The answers behind them stay. Answers how many events there were.
 #[no_mangle]
 pub extern "C" fn vongselik_parts_events<'a>(
+    version: u8,
     processors: u8,
     jobs: u8,
     objects: u8,
@@ -25,21 +27,23 @@ pub extern "C" fn vongselik_parts_events<'a>(
     unlocked: &mut RankSet,
     readers: SetsMut,
     writers: SetsMut,
+    certified: &mut ObjectMarks,
     request: &mut JobRequests,
     events: &[u8],
     answers: &mut [u32],
 ) -> usize
     ensures number { λ r. ⌜ r ≡ eventCount (now (events .entry)) (now (answers .entry)) ⌝ }
-    ensures answers { λ r. ⌜ now (answers .exit) ≡ answersTo (stateOf (countsOf processors jobs objects) (now («processor_of» .entry)) (now («may_read» .entry)) (now («may_write» .entry))
-        (now (active .entry)) (now (unlocked .entry)) (now (readers .entry)) (now (writers .entry)) (now (request .entry)))
+    ensures answers { λ r. ⌜ now (answers .exit) ≡ answersTo (stateOf (countsOf version processors jobs objects) (now («processor_of» .entry)) (now («may_read» .entry)) (now («may_write» .entry))
+        (now (active .entry)) (now (unlocked .entry)) (now (readers .entry)) (now (writers .entry)) (now (certified .entry)) (now (request .entry)))
         (wholeEvents (now (events .entry)) (now (answers .entry))) ++ drop (eventCount (now (events .entry)) (now (answers .entry))) (now (answers .entry)) ⌝ }
-    ensures state { λ r. ⌜ stateOf (countsOf processors jobs objects) (now («processor_of» .entry)) (now («may_read» .entry)) (now («may_write» .entry))
-        (now (active .exit)) (now (unlocked .exit)) (now (readers .exit)) (now (writers .exit)) (now (request .exit))
-        ≡ stateAfter (stateOf (countsOf processors jobs objects) (now («processor_of» .entry)) (now («may_read» .entry)) (now («may_write» .entry))
-        (now (active .entry)) (now (unlocked .entry)) (now (readers .entry)) (now (writers .entry)) (now (request .entry)))
+    ensures state { λ r. ⌜ stateOf (countsOf version processors jobs objects) (now («processor_of» .entry)) (now («may_read» .entry)) (now («may_write» .entry))
+        (now (active .exit)) (now (unlocked .exit)) (now (readers .exit)) (now (writers .exit)) (now (certified .exit)) (now (request .exit))
+        ≡ stateAfter (stateOf (countsOf version processors jobs objects) (now («processor_of» .entry)) (now («may_read» .entry)) (now («may_write» .entry))
+        (now (active .entry)) (now (unlocked .entry)) (now (readers .entry)) (now (writers .entry)) (now (certified .entry)) (now (request .entry)))
         (wholeEvents (now (events .entry)) (now (answers .entry))) ⌝ }
 {
     let counts = Counts {
+        version,
         processors,
         jobs,
         objects,
@@ -53,6 +57,7 @@ pub extern "C" fn vongselik_parts_events<'a>(
         unlocked,
         readers,
         writers,
+        certified,
         request,
         events,
         answers,

@@ -7,12 +7,14 @@ use ranks::RankSet;
 use state::Counts;
 use state::JobProcessors;
 use state::JobRequests;
+use state::ObjectMarks;
 use state::Sets;
 
 // Lays so many events from the seed into the front of the buffer and puts the next seed into `seed`. Answers 0, or the refusal's number, 8 or 23, and leaves
 // all as it was.
 #[no_mangle]
 pub extern "C" fn vongselik_parts_make_events<'a>(
+    version: u8,
     processors: u8,
     jobs: u8,
     objects: u8,
@@ -23,19 +25,21 @@ pub extern "C" fn vongselik_parts_make_events<'a>(
     unlocked: RankSet,
     readers: Sets<'a>,
     writers: Sets<'a>,
+    certified: &'a ObjectMarks,
     request: &'a JobRequests,
     seed: &mut u32,
     count: usize,
     buffer: &mut [u8],
 ) -> u8
-    ensures number { λ r. ⌜ r ≡ makeEvents (stateOf (countsOf processors jobs objects) (now («processor_of» .entry)) (now («may_read» .entry)) (now («may_write» .entry))
-        active unlocked (now (readers .entry)) (now (writers .entry)) (now (request .entry))) (now (seed .entry)) count (now (buffer .entry)) .refusal ⌝ }
-    ensures seed { λ _. ⌜ now (seed .exit) ≡ makeEvents (stateOf (countsOf processors jobs objects) (now («processor_of» .entry)) (now («may_read» .entry)) (now («may_write» .entry))
-        active unlocked (now (readers .entry)) (now (writers .entry)) (now (request .entry))) (now (seed .entry)) count (now (buffer .entry)) .seed ⌝ }
-    ensures buffer { λ _. ⌜ now (buffer .exit) ≡ eventsMade (stateOf (countsOf processors jobs objects) (now («processor_of» .entry)) (now («may_read» .entry)) (now («may_write» .entry))
-        active unlocked (now (readers .entry)) (now (writers .entry)) (now (request .entry))) (now (seed .entry)) count (now (buffer .entry)) ⌝ }
+    ensures number { λ r. ⌜ r ≡ makeEvents (stateOf (countsOf version processors jobs objects) (now («processor_of» .entry)) (now («may_read» .entry)) (now («may_write» .entry))
+        active unlocked (now (readers .entry)) (now (writers .entry)) (now (certified .entry)) (now (request .entry))) (now (seed .entry)) count (now (buffer .entry)) .refusal ⌝ }
+    ensures seed { λ _. ⌜ now (seed .exit) ≡ makeEvents (stateOf (countsOf version processors jobs objects) (now («processor_of» .entry)) (now («may_read» .entry)) (now («may_write» .entry))
+        active unlocked (now (readers .entry)) (now (writers .entry)) (now (certified .entry)) (now (request .entry))) (now (seed .entry)) count (now (buffer .entry)) .seed ⌝ }
+    ensures buffer { λ _. ⌜ now (buffer .exit) ≡ eventsMade (stateOf (countsOf version processors jobs objects) (now («processor_of» .entry)) (now («may_read» .entry)) (now («may_write» .entry))
+        active unlocked (now (readers .entry)) (now (writers .entry)) (now (certified .entry)) (now (request .entry))) (now (seed .entry)) count (now (buffer .entry)) ⌝ }
 {
     let counts = Counts {
+        version,
         processors,
         jobs,
         objects,
@@ -49,6 +53,7 @@ pub extern "C" fn vongselik_parts_make_events<'a>(
         unlocked,
         readers,
         writers,
+        certified,
         request,
         *seed,
         count,

@@ -9,11 +9,13 @@ use ranks::RankSet;
 use state::Counts;
 use state::JobProcessors;
 use state::JobRequests;
+use state::ObjectMarks;
 use state::Sets;
 
 // Lays the state's page into the front of the buffer and its length into `length`. Answers 0, or the refusal's number, 8 or 22, and leaves all as it was.
 #[no_mangle]
 pub extern "C" fn vongselik_parts_page<'a>(
+    version: u8,
     processors: u8,
     jobs: u8,
     objects: u8,
@@ -24,18 +26,20 @@ pub extern "C" fn vongselik_parts_page<'a>(
     unlocked: RankSet,
     readers: Sets<'a>,
     writers: Sets<'a>,
+    certified: &'a ObjectMarks,
     request: &'a JobRequests,
     buffer: &mut [u8],
     length: &mut usize,
 ) -> u8
-    ensures number { λ r. ⌜ r ≡ writePage (stateOf (countsOf processors jobs objects) (now («processor_of» .entry)) (now («may_read» .entry)) (now («may_write» .entry))
-        active unlocked (now (readers .entry)) (now (writers .entry)) (now (request .entry))) (now (buffer .entry)) .refusal ⌝ }
-    ensures buffer { λ _. ⌜ now (buffer .exit) ≡ pageWritten (stateOf (countsOf processors jobs objects) (now («processor_of» .entry)) (now («may_read» .entry)) (now («may_write» .entry))
-        active unlocked (now (readers .entry)) (now (writers .entry)) (now (request .entry))) (now (buffer .entry)) ⌝ }
-    ensures length { λ _. ⌜ now (length .exit) ≡ value (writePage (stateOf (countsOf processors jobs objects) (now («processor_of» .entry)) (now («may_read» .entry)) (now («may_write» .entry))
-        active unlocked (now (readers .entry)) (now (writers .entry)) (now (request .entry))) (now (buffer .entry))) 0 (now (length .entry)) ⌝ }
+    ensures number { λ r. ⌜ r ≡ writePage (stateOf (countsOf version processors jobs objects) (now («processor_of» .entry)) (now («may_read» .entry)) (now («may_write» .entry))
+        active unlocked (now (readers .entry)) (now (writers .entry)) (now (certified .entry)) (now (request .entry))) (now (buffer .entry)) .refusal ⌝ }
+    ensures buffer { λ _. ⌜ now (buffer .exit) ≡ pageWritten (stateOf (countsOf version processors jobs objects) (now («processor_of» .entry)) (now («may_read» .entry)) (now («may_write» .entry))
+        active unlocked (now (readers .entry)) (now (writers .entry)) (now (certified .entry)) (now (request .entry))) (now (buffer .entry)) ⌝ }
+    ensures length { λ _. ⌜ now (length .exit) ≡ value (writePage (stateOf (countsOf version processors jobs objects) (now («processor_of» .entry)) (now («may_read» .entry)) (now («may_write» .entry))
+        active unlocked (now (readers .entry)) (now (writers .entry)) (now (certified .entry)) (now (request .entry))) (now (buffer .entry))) 0 (now (length .entry)) ⌝ }
 {
     let counts = Counts {
+        version,
         processors,
         jobs,
         objects,
@@ -49,6 +53,7 @@ pub extern "C" fn vongselik_parts_page<'a>(
         unlocked,
         readers,
         writers,
+        certified,
         request,
         buffer,
     );

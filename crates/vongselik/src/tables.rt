@@ -9,6 +9,7 @@ use ranks::RankSet;
 use state::Counts;
 use state::JobProcessors;
 use state::JobRequests;
+use state::ObjectMarks;
 use state::Sets;
 use state::SetsMut;
 use state::State;
@@ -19,6 +20,7 @@ use table_writer::Written;
 pub extern "C" fn vongselik_parts_read_table(
     bytes: &[u8],
     used: &mut usize,
+    version: &mut u8,
     processors: &mut u8,
     jobs: &mut u8,
     objects: &mut u8,
@@ -29,15 +31,16 @@ pub extern "C" fn vongselik_parts_read_table(
     unlocked: &mut RankSet,
     readers: SetsMut,
     writers: SetsMut,
+    certified: &mut ObjectMarks,
     request: &mut JobRequests,
 ) -> u8
     ensures number { λ r. ⌜ r ≡ readTable (now (bytes .entry)) .refusal ⌝ }
     ensures used { λ _. ⌜ now (used .exit) ≡ usedRead (readTable (now (bytes .entry))) (now (used .entry)) ⌝ }
-    ensures state { λ _. ⌜ stateOf (countsOf (now (processors .exit)) (now (jobs .exit)) (now (objects .exit))) (now («processor_of» .exit)) (now («may_read» .exit)) (now («may_write» .exit))
-        (now (active .exit)) (now (unlocked .exit)) (now (readers .exit)) (now (writers .exit)) (now (request .exit))
+    ensures state { λ _. ⌜ stateOf (countsOf (now (version .exit)) (now (processors .exit)) (now (jobs .exit)) (now (objects .exit))) (now («processor_of» .exit)) (now («may_read» .exit)) (now («may_write» .exit))
+        (now (active .exit)) (now (unlocked .exit)) (now (readers .exit)) (now (writers .exit)) (now (certified .exit)) (now (request .exit))
         ≡ stateRead (readTable (now (bytes .entry)))
-        (stateOf (countsOf (now (processors .entry)) (now (jobs .entry)) (now (objects .entry))) (now («processor_of» .entry)) (now («may_read» .entry)) (now («may_write» .entry))
-        (now (active .entry)) (now (unlocked .entry)) (now (readers .entry)) (now (writers .entry)) (now (request .entry))) ⌝ }
+        (stateOf (countsOf (now (version .entry)) (now (processors .entry)) (now (jobs .entry)) (now (objects .entry))) (now («processor_of» .entry)) (now («may_read» .entry)) (now («may_write» .entry))
+        (now (active .entry)) (now (unlocked .entry)) (now (readers .entry)) (now (writers .entry)) (now (certified .entry)) (now (request .entry))) ⌝ }
 {
     let read = table::read_table(bytes);
     if read.refusal != 0 {
@@ -46,6 +49,7 @@ pub extern "C" fn vongselik_parts_read_table(
     let next = read.state;
     *used = read.used;
     let counts = next.counts;
+    *version = counts.version;
     *processors = counts.processors;
     *jobs = counts.jobs;
     *objects = counts.objects;
@@ -61,6 +65,8 @@ pub extern "C" fn vongselik_parts_read_table(
     *readers = next_readers;
     let next_writers = next.writers;
     *writers = next_writers;
+    let next_certified = next.certified;
+    *certified = next_certified;
     let next_request = next.request;
     *request = next_request;
     0
@@ -69,6 +75,7 @@ pub extern "C" fn vongselik_parts_read_table(
 // Lays the state's table into the front of the buffer and its length into `length`. Answers 0, or the refusal's number, 8 or 20, and leaves all as it was.
 #[no_mangle]
 pub extern "C" fn vongselik_parts_write_table<'a>(
+    version: u8,
     processors: u8,
     jobs: u8,
     objects: u8,
@@ -79,18 +86,20 @@ pub extern "C" fn vongselik_parts_write_table<'a>(
     unlocked: RankSet,
     readers: Sets<'a>,
     writers: Sets<'a>,
+    certified: &'a ObjectMarks,
     request: &'a JobRequests,
     buffer: &mut [u8],
     length: &mut usize,
 ) -> u8
-    ensures number { λ r. ⌜ r ≡ writeTable (stateOf (countsOf processors jobs objects) (now («processor_of» .entry)) (now («may_read» .entry)) (now («may_write» .entry))
-        active unlocked (now (readers .entry)) (now (writers .entry)) (now (request .entry))) (now (buffer .entry)) .refusal ⌝ }
-    ensures buffer { λ _. ⌜ now (buffer .exit) ≡ written (stateOf (countsOf processors jobs objects) (now («processor_of» .entry)) (now («may_read» .entry)) (now («may_write» .entry))
-        active unlocked (now (readers .entry)) (now (writers .entry)) (now (request .entry))) (now (buffer .entry)) ⌝ }
-    ensures length { λ _. ⌜ now (length .exit) ≡ value (writeTable (stateOf (countsOf processors jobs objects) (now («processor_of» .entry)) (now («may_read» .entry)) (now («may_write» .entry))
-        active unlocked (now (readers .entry)) (now (writers .entry)) (now (request .entry))) (now (buffer .entry))) 0 (now (length .entry)) ⌝ }
+    ensures number { λ r. ⌜ r ≡ writeTable (stateOf (countsOf version processors jobs objects) (now («processor_of» .entry)) (now («may_read» .entry)) (now («may_write» .entry))
+        active unlocked (now (readers .entry)) (now (writers .entry)) (now (certified .entry)) (now (request .entry))) (now (buffer .entry)) .refusal ⌝ }
+    ensures buffer { λ _. ⌜ now (buffer .exit) ≡ written (stateOf (countsOf version processors jobs objects) (now («processor_of» .entry)) (now («may_read» .entry)) (now («may_write» .entry))
+        active unlocked (now (readers .entry)) (now (writers .entry)) (now (certified .entry)) (now (request .entry))) (now (buffer .entry)) ⌝ }
+    ensures length { λ _. ⌜ now (length .exit) ≡ value (writeTable (stateOf (countsOf version processors jobs objects) (now («processor_of» .entry)) (now («may_read» .entry)) (now («may_write» .entry))
+        active unlocked (now (readers .entry)) (now (writers .entry)) (now (certified .entry)) (now (request .entry))) (now (buffer .entry))) 0 (now (length .entry)) ⌝ }
 {
     let counts = Counts {
+        version,
         processors,
         jobs,
         objects,
@@ -104,6 +113,7 @@ pub extern "C" fn vongselik_parts_write_table<'a>(
         unlocked,
         readers: *readers,
         writers: *writers,
+        certified: *certified,
         request: *request,
     };
     let answer = table_writer::write_table(state, buffer);

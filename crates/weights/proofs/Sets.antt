@@ -10,8 +10,8 @@ use Rattle.weights.specs.ObjectKeys.{objectKeyOf}
 use Rattle.weights.specs.Parts.{keyAt}
 
 -- the sets of object o stand at o - 1 in the arrays
-pub key-there : (counts : Counts) (mayRead mayWrite readers writers : List ℕ) (j o : ℕ) → 1 ≤ o
-    → keyAt counts mayRead mayWrite readers writers j o
+pub key-there : (counts : Counts) (mayRead mayWrite readers writers certified : List ℕ) (j o : ℕ) → 1 ≤ o
+    → keyAt counts mayRead mayWrite readers writers certified j o
     ≡ objectKeyOf counts (getD readers (o - 1) 0) (getD writers (o - 1) 0) (getD mayRead (o - 1) 0) (getD mayWrite (o - 1) 0) o j
 unfolding keyAt
 key-there counts mayRead mayWrite readers writers j zero h = absurd (omega arith)

@@ -1,5 +1,5 @@
--- The lowest key on one object, by the table's counts and the object's four sets of ranks: its readers and writers, and the ranks that may read and
--- write it. Then that this is the lowest key on the object of the state with these sets.
+-- The lowest key on one object, by the table's counts, the object's four sets of ranks (its readers and writers, and the ranks that may read and
+-- write it) and whether its write lock shares with none. Then that this is the lowest key on the object of the state with these sets.
 -- Assumes nothing.
 use mathlib.Core.Path.{_≡_, refl, sym, ap₂, _∙_}
 use mathlib.Core.Bool.{Bool, true, false, not, _&&_}
@@ -13,8 +13,8 @@ use Rattle.ranks.specs.Ranks.{member, without, union}
 use Rattle.ranks.specs.RankLaws.{member-without-same, member-without-other}
 use Rattle.state.specs.declared.Counts.{Counts}
 use Rattle.state.specs.declared.State.{State}
-use Rattle.state.specs.State.{mostJobs, read, write, holders, declared}
-use Rattle.weights.specs.Weights.{ceilingOf, moreUrgent, weight}
+use Rattle.state.specs.State.{mostJobs, read, write, holders, declared, sharesWithNone}
+use Rattle.weights.specs.Weights.{ceilingOf, moreUrgent, writeWeight, weight}
 use Rattle.weights.specs.Keys.{lockKey, noKey, othersKey, objectKey}
 
 -- the key of r's lock on o, if r is one of the holders
@@ -25,14 +25,18 @@ heldKey holders weighs o r = if member holders r then lockKey weighs r o else no
 unfoldable pub readerKey : ℕ → ℕ → ℕ → ℕ
 readerKey readers writeCeiling o = least mostJobs noKey (λ r. heldKey readers (moreUrgent writeCeiling r) o r)
 
--- the lowest key among the write locks on o, by its absolute ceiling
+-- what a write lock weighs that shares with none or may be shared
+abbrev pub writersWeight : Counts → Bool → ℕ → ℕ → ℕ
+writersWeight c none mayRead mayWrite = if none then ceilingOf c (union mayRead mayWrite) else ceilingOf c mayWrite
+
+-- the lowest key among the write locks on o, by what one weighs
 unfoldable pub writerKey : ℕ → ℕ → ℕ → ℕ
-writerKey writers absoluteCeiling o = least mostJobs noKey (heldKey writers absoluteCeiling o)
+writerKey writers weighs o = least mostJobs noKey (heldKey writers weighs o)
 
 -- the lowest key among the locks that others than j hold on o: "Own locks don't count."
-unfoldable pub objectKeyOf : Counts → ℕ → ℕ → ℕ → ℕ → ℕ → ℕ → ℕ
-objectKeyOf c readers writers mayRead mayWrite o j =
-    min (readerKey (without readers j) (ceilingOf c mayWrite) o) (writerKey (without writers j) (ceilingOf c (union mayRead mayWrite)) o)
+unfoldable pub objectKeyOf : Counts → Bool → ℕ → ℕ → ℕ → ℕ → ℕ → ℕ → ℕ
+objectKeyOf c none readers writers mayRead mayWrite o j =
+    min (readerKey (without readers j) (ceilingOf c mayWrite) o) (writerKey (without writers j) (writersWeight c none mayRead mayWrite) o)
 
 -- ---- the lowest key on an object of a state
 
@@ -51,15 +55,15 @@ others-without set j r key = go (eqb r j) refl
     go false t = rw (member-without-other set j r (λ e. eqb-false r j t (sym e)))
 
 pub object-key-sets : (s : State) (j o : ℕ)
-    → objectKey (weight s) s j o ≡ objectKeyOf (s .counts) (holders s read o) (holders s write o) (declared s read o) (declared s write o) o j
+    → objectKey (weight s) s j o ≡ objectKeyOf (s .counts) (sharesWithNone s o) (holders s read o) (holders s write o) (declared s read o) (declared s write o) o j
 unfolding objectKey othersKey weight objectKeyOf readerKey writerKey
 object-key-sets s j o =
     let ceiling = ceilingOf (s .counts) (declared s write o) in
-    let absolute = ceilingOf (s .counts) (union (declared s read o) (declared s write o)) in
+    let written = writeWeight s o in
     let readKey : ℕ → ℕ = (λ r. heldKey (without (holders s read o) j) (moreUrgent ceiling r) o r) in
-    let writeKey : ℕ → ℕ = heldKey (without (holders s write o) j) absolute o in
+    let writeKey : ℕ → ℕ = heldKey (without (holders s write o) j) written o in
     least-same mostJobs noKey _ (λ r. min (readKey r) (writeKey r))
     (λ r a b. ap₂ min
     (others-without (holders s read o) j r (lockKey (moreUrgent ceiling r) r o))
-    (others-without (holders s write o) j r (lockKey absolute r o)))
+    (others-without (holders s write o) j r (lockKey written r o)))
     ∙ least-min mostJobs noKey readKey writeKey

@@ -1,10 +1,11 @@
--- Ceilings, and what a lock weighs (01, "Ceilings"; 02, CR 4).
+-- Ceilings, and what a lock weighs (01, "Ceilings"; 02, CR 4 and CR 6).
 -- Assumes nothing.
 use Prim.Native.Nat.{ℕ, _+_, min}
+use Rattle.basics.specs.Choice.{if_then_else_}
 use Rattle.ranks.specs.Ranks.{first}
 use Rattle.state.specs.declared.Counts.{Counts}
 use Rattle.state.specs.declared.State.{State}
-use Rattle.state.specs.State.{mostJobs, write, ofMode, declared, declaredAny}
+use Rattle.state.specs.State.{mostJobs, write, ofMode, declared, declaredAny, sharesWithNone}
 
 -- the more urgent of two ranks or ceilings
 abbrev pub moreUrgent : ℕ → ℕ → ℕ
@@ -26,10 +27,15 @@ writeCeiling s o = ceilingOf (s .counts) (declared s write o)
 abbrev pub absoluteCeiling : State → ℕ → ℕ
 absoluteCeiling s o = ceilingOf (s .counts) (declaredAny s o)
 
--- "A read lock weighs the more urgent of the write ceiling and its holder's own rank (the cap). A write lock weighs the absolute ceiling."
-unfoldable pub weight : State → ℕ → ℕ → ℕ → ℕ
-weight s m r o = ofMode m (moreUrgent (writeCeiling s o) r) (absoluteCeiling s o)
+-- "A write lock weighs the absolute ceiling." In version 2 "a write lock then weighs the write ceiling, a certify lock the absolute ceiling":
+-- a write lock on o weighs the absolute ceiling where it shares with none, which in version 1 every write lock does
+abbrev pub writeWeight : State → ℕ → ℕ
+writeWeight s o = if sharesWithNone s o then absoluteCeiling s o else writeCeiling s o
 
--- "The old rule is the same with a read lock weighing the write ceiling alone."
+-- "A read lock weighs the more urgent of the write ceiling and its holder's own rank (the cap)."
+unfoldable pub weight : State → ℕ → ℕ → ℕ → ℕ
+weight s m r o = ofMode m (moreUrgent (writeCeiling s o) r) (writeWeight s o)
+
+-- "The old rule is the same with a read lock weighing the write ceiling alone.": it is a rule for version 1
 unfoldable pub oldWeight : State → ℕ → ℕ → ℕ → ℕ
 oldWeight s m r o = ofMode m (writeCeiling s o) (absoluteCeiling s o)

@@ -23,7 +23,7 @@ in-range : (c : tie.Else1) → let k = c .before .before .lowest-key .result in 
 in-range c =
     let t = c .before .before .before .before .before in
     let a = t .args in
-    let s = locksState (a .counts) (now (a .may-read)) (now (a .may-write)) (now (a .readers)) (now (a .writers)) in
+    let s = locksState (a .counts) (now (a .may-read)) (now (a .may-write)) (now (a .readers)) (now (a .writers)) (now (a .certified)) in
     L.stopped (weight s) s (a .rank) (c .before .before .lowest-key .result) (c .before .before .lowest-key .ensures)
     (sym (c .before .passes .ensures) ∙ c .if1 .left) (t .pre .3) (t .pre .0)
 
@@ -42,7 +42,7 @@ returns c =
     let b = c .before .before .before .before .before .before .before .before .before .args in
     let k = c .before .before .before .before .before .before .lowest-key .result in
     λ a u ps.
-    let s = stateOf (b .counts) ps (now (b .may-read)) (now (b .may-write)) a u (now (b .readers)) (now (b .writers)) (now (b .request)) in
+    let s = stateOf (b .counts) ps (now (b .may-read)) (now (b .may-write)) a u (now (b .readers)) (now (b .writers)) (now (b .certified)) (now (b .request)) in
     (λ i. outcome Granted (stateOf (b .counts) ps (now (b .may-read)) (now (b .may-write)) a u (c .grant .ensures .0 i) (c .grant .ensures .1 i) (c .grant .ensures .2 i)))
     ∙ sym (L.granted s (b .mode) (b .rank) (b .object) k (sym (c .before .before .before .before .before .passes .ensures) ∙ c .before .before .before .before .if1 .taken))
     ∙ ap (requestMeeting s (b .mode) (b .rank) (b .object)) (c .before .before .before .before .before .before .lowest-key .ensures ∙ sym (lowest-key-parts s (b .rank)))
@@ -85,12 +85,12 @@ returns-2 c =
     let h = c .before .before .before .before .before .before .before .before .key-holder .ensures in
     let o = c .before .before .before .before .before .before .before .key-object .ensures in
     λ a u ps.
-    let s = stateOf (b .counts) ps (now (b .may-read)) (now (b .may-write)) a u (now (b .readers)) (now (b .writers)) (now (b .request)) in
+    let s = stateOf (b .counts) ps (now (b .may-read)) (now (b .may-write)) a u (now (b .readers)) (now (b .writers)) (now (b .certified)) (now (b .request)) in
     let why : c .before .before .reason .result ≡ reason s (b .mode) (b .object) (keyHolder k) (keyObject k) =
     c .before .before .reason .ensures
-    ∙ (λ i. reasonOf (b .mode) (b .object) (h i) (o i) ((c .before .before .before .before .before .set-of .ensures ∙ ap (at (now (b .writers))) o) i) ((c .before .before .before .ceiling .ensures ∙ ap (ceilingOf (b .counts)) (c .before .before .before .before .set-of2 .ensures ∙ ap (at (now (b .may-write))) o)) i))
+    ∙ (λ i. reasonOf (b .mode) (b .object) (h i) (o i) ((c .before .before .before .before .before .set-of .ensures ∙ ap (at (now (b .writers)) (now (b .certified))) o) i) ((c .before .before .before .ceiling .ensures ∙ ap (ceilingOf (b .counts)) (c .before .before .before .before .set-of2 .ensures ∙ ap (at (now (b .may-write))) o)) i))
     ∙ sym (reason-parts s (b .mode) (b .object) (keyHolder k) (keyObject k)) in
-    (λ i. outcome (Waits (h i) (o i) (why i)) (stateOf (b .counts) ps (now (b .may-read)) (now (b .may-write)) a u (now (b .readers)) (now (b .writers)) (c .store-request .ensures i)))
+    (λ i. outcome (Waits (h i) (o i) (why i)) (stateOf (b .counts) ps (now (b .may-read)) (now (b .may-write)) a u (now (b .readers)) (now (b .writers)) (now (b .certified)) (c .store-request .ensures i)))
     ∙ sym (L.waits s (b .mode) (b .rank) (b .object) k (sym (c .before .before .before .before .before .before .before .before .before .before .passes .ensures) ∙ c .before .before .before .before .before .before .before .before .before .if1 .left))
     ∙ ap (requestMeeting s (b .mode) (b .rank) (b .object)) (c .before .before .before .before .before .before .before .before .before .before .before .lowest-key .ensures ∙ sym (lowest-key-parts s (b .rank)))
 

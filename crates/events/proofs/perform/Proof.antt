@@ -33,13 +33,13 @@ finish-requires c κs = search needs
 returns : tie.Need-returns
 returns c =
     let b = c .before .before .before .args in
-    λ ps. c .start .ensures (now (b .unlocked)) ps (now (b .may-read)) (now (b .may-write)) (now (b .readers)) (now (b .writers)) (now (b .request))
-    ∙ ap (λ (k : ℕ). E.perform (stateOf (b .counts) ps (now (b .may-read)) (now (b .may-write)) (now (b .active)) (now (b .unlocked)) (now (b .readers)) (now (b .writers)) (now (b .request))) k (b .rank) (b .object)) (sym (c .before .before .match .keys1))
+    λ ps. c .start .ensures (now (b .unlocked)) ps (now (b .may-read)) (now (b .may-write)) (now (b .readers)) (now (b .writers)) (now (b .certified)) (now (b .request))
+    ∙ ap (λ (k : ℕ). E.perform (stateOf (b .counts) ps (now (b .may-read)) (now (b .may-write)) (now (b .active)) (now (b .unlocked)) (now (b .readers)) (now (b .writers)) (now (b .certified)) (now (b .request))) k (b .rank) (b .object)) (sym (c .before .before .match .keys1))
 
 returns-2 : tie.Need-returns-2
 returns-2 c =
     let b = c .before .before .before .before .before .before .before .args in
-    λ ps. c .unlock .ensures ps ∙ ap (λ (k : ℕ). E.perform (stateOf (b .counts) ps (now (b .may-read)) (now (b .may-write)) (now (b .active)) (now (b .unlocked)) (now (b .readers)) (now (b .writers)) (now (b .request))) k (b .rank) (b .object)) (sym (c .before .before .before .before .before .before .match .keys2))
+    λ ps. c .unlock .ensures ps ∙ ap (λ (k : ℕ). E.perform (stateOf (b .counts) ps (now (b .may-read)) (now (b .may-write)) (now (b .active)) (now (b .unlocked)) (now (b .readers)) (now (b .writers)) (now (b .certified)) (now (b .request))) k (b .rank) (b .object)) (sym (c .before .before .before .before .before .before .match .keys2))
 
 returns-3 : tie.Need-returns-3
 returns-3 c = c .lock .ensures
@@ -50,12 +50,12 @@ returns-4 c = c .finish .ensures
 returns-5 : tie.Need-returns-5
 returns-5 c =
     let b = c .before .args in
-    λ ps. L.perform-unknown (stateOf (b .counts) ps (now (b .may-read)) (now (b .may-write)) (now (b .active)) (now (b .unlocked)) (now (b .readers)) (now (b .writers)) (now (b .request))) (b .kind) (b .rank) (b .object) (ap (between 1 6) (c .match .keys3))
+    λ ps. L.perform-unknown (stateOf (b .counts) ps (now (b .may-read)) (now (b .may-write)) (now (b .active)) (now (b .unlocked)) (now (b .readers)) (now (b .writers)) (now (b .certified)) (now (b .request))) (b .kind) (b .rank) (b .object) (ap (between 1 6) (c .match .keys3))
 
 returns-6 : tie.Need-returns-6
 returns-6 c =
     let b = c .before .before .before .args in
-    λ ps. L.perform-unknown (stateOf (b .counts) ps (now (b .may-read)) (now (b .may-write)) (now (b .active)) (now (b .unlocked)) (now (b .readers)) (now (b .writers)) (now (b .request))) (b .kind) (b .rank) (b .object) (beyond (b .kind) (c .if2 .left))
+    λ ps. L.perform-unknown (stateOf (b .counts) ps (now (b .may-read)) (now (b .may-write)) (now (b .active)) (now (b .unlocked)) (now (b .readers)) (now (b .writers)) (now (b .certified)) (now (b .request))) (b .kind) (b .rank) (b .object) (beyond (b .kind) (c .if2 .left))
 
 pub perform-spec : {M : Type 1} → statement M
 perform-spec =

@@ -19,7 +19,7 @@ returns : tie.Need-returns
 returns c =
     let a = c .before .before .before .args in
     c .inherited-by .ensures
-    ∙ inherited-by (c .before .before .named-locks .result) (waitsState (a .counts) (now (a .may-read)) (now (a .may-write)) (now (a .readers)) (now (a .writers)) (now (a .request))) (c .before .before .named-locks .ensures) (a .rank) (omega arith)
+    ∙ inherited-by (c .before .before .named-locks .result) (waitsState (a .counts) (now (a .may-read)) (now (a .may-write)) (now (a .readers)) (now (a .writers)) (now (a .certified)) (now (a .request))) (c .before .before .named-locks .ensures) (a .rank) (omega arith)
 
 pub inherited-rank-spec : {M : Type 1} → statement M
 inherited-rank-spec = tie.close (tie.spec named-locks-requires inherited-by-requires returns)

@@ -17,12 +17,12 @@ use Rattle.inheritance.proofs.named_locks.Statement.{statement}
 use Rattle.inheritance.proofs.named_locks.Tie as tie
 
 abbrev Inv-loop : tie.InvT-loop
-Inv-loop counts may-read may-write readers writers request jobs named₀ rank₀ named rank =
+Inv-loop counts may-read may-write readers writers certified request jobs named₀ rank₀ named rank =
     (rank ≤ jobs) × (length named ≡ mostJobs)
-    × FilledTo named rank (λ j. namedKey (waitsState counts may-read may-write readers writers request) j % 65536)
+    × FilledTo named rank (λ j. namedKey (waitsState counts may-read may-write readers writers certified request) j % 65536)
 
 abbrev μ-loop : tie.MeasureT-loop
-μ-loop counts may-read may-write readers writers request jobs named₀ rank₀ named rank = jobs - rank
+μ-loop counts may-read may-write readers writers certified request jobs named₀ rank₀ named rank = jobs - rank
 
 loop-holds : tie.Need-loop-holds Inv-loop μ-loop
 loop-holds c = (search needs, search needs, filled-none mostJobs _)
@@ -58,8 +58,8 @@ loop-again : tie.Need-loop-again Inv-loop μ-loop
 loop-again c =
     let a = c .before .before .before .before .args in
     let rank = c .before .before .before .loop .rank in
-    let s = waitsState (a .counts) (now (a .may-read)) (now (a .may-write)) (now (a .readers)) (now (a .writers)) (now (a .request)) in
-    let key = lowestKey (locksState (a .counts) (now (a .may-read)) (now (a .may-write)) (now (a .readers)) (now (a .writers))) (rank + 1) in
+    let s = waitsState (a .counts) (now (a .may-read)) (now (a .may-write)) (now (a .readers)) (now (a .writers)) (now (a .certified)) (now (a .request)) in
+    let key = lowestKey (locksState (a .counts) (now (a .may-read)) (now (a .may-write)) (now (a .readers)) (now (a .writers)) (now (a .certified))) (rank + 1) in
     let named : c .named-key .result ≡ namedKey s (rank + 1) =
     c .named-key .ensures ∙ ap (λ (q : ℕ). namedKeyOf q key (rank + 1)) (sym (at-next (now (a .request)) rank)) ∙ sym (named-key-parts s (rank + 1))
     in (
@@ -72,7 +72,7 @@ returns : tie.Need-returns Inv-loop μ-loop
 returns c =
     let a = c .before .before .args in
     let all : c .before .loop .rank ≡ a .counts .jobs = omega arith in
-    subst (λ (n : ℕ). FilledTo (c .before .loop .named) n (λ j. namedKey (waitsState (a .counts) (now (a .may-read)) (now (a .may-write)) (now (a .readers)) (now (a .writers)) (now (a .request))) j % 65536)) all
+    subst (λ (n : ℕ). FilledTo (c .before .loop .named) n (λ j. namedKey (waitsState (a .counts) (now (a .may-read)) (now (a .may-write)) (now (a .readers)) (now (a .writers)) (now (a .certified)) (now (a .request))) j % 65536)) all
     (c .before .loop .inv .2)
 
 pub named-locks-spec : {M : Type 1} → statement M

@@ -21,7 +21,7 @@ running-by-requires c κs = search needs
 returns : tie.Need-returns
 returns c =
     let a = c .before .before .before .args in
-    let s = runState (a .counts) (now (a .processor-of)) (a .active) (now (a .may-read)) (now (a .may-write)) (now (a .readers)) (now (a .writers)) (now (a .request)) in
+    let s = runState (a .counts) (now (a .processor-of)) (a .active) (now (a .may-read)) (now (a .may-write)) (now (a .readers)) (now (a .writers)) (now (a .certified)) (now (a .request)) in
     let by : NamedBy (c .before .before .named-locks .result) s = (λ r. c .before .before .named-locks .ensures r ∙ ap (λ (k : ℕ). if isRank s r then k % 65536 else 0) (sym (named-waits-parts s r))) in
     c .running-by .ensures ∙ running-by (c .before .before .named-locks .result) s by (a .processor)
 

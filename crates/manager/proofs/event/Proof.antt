@@ -12,6 +12,7 @@ sized c = record {
   may-write = search needs;
   readers = search needs;
   writers = search needs;
+  certified = search needs;
   request = search needs;
 }
 

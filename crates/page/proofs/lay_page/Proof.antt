@@ -21,7 +21,7 @@ use Rattle.page.proofs.lay_page.Tie as tie
 -- the state that the parts are of
 abbrev whole : tie.Start → State
 whole c = let a = c .args in
-    runState (a .counts) (now (a .processor-of)) (a .active) (now (a .may-read)) (now (a .may-write)) (now (a .readers)) (now (a .writers)) (now (a .request))
+    runState (a .counts) (now (a .processor-of)) (a .active) (now (a .may-read)) (now (a .may-write)) (now (a .readers)) (now (a .writers)) (now (a .certified)) (now (a .request))
 
 -- the lines by what was worked out are the page
 lines-are : (c : tie.After-running-ranks) → let s = whole (c .before .before .before .before) in

@@ -13,7 +13,7 @@ use Rattle.rule.proofs.named_key.Tie as tie
 returns : tie.Need-returns
 returns c =
     let a = c .before .args in
-    named-none (a .request) (lowestKey (locksState (a .counts) (now (a .may-read)) (now (a .may-write)) (now (a .readers)) (now (a .writers))) (a .rank)) (a .rank) (c .if1 .taken)
+    named-none (a .request) (lowestKey (locksState (a .counts) (now (a .may-read)) (now (a .may-write)) (now (a .readers)) (now (a .writers)) (now (a .certified))) (a .rank)) (a .rank) (c .if1 .taken)
 
 lowest-key-requires : tie.Need-lowest-key-requires
 lowest-key-requires c κs = search needs
@@ -24,14 +24,14 @@ passes-requires c κs = search needs
 returns-2 : tie.Need-returns-2
 returns-2 c =
     let a = c .before .before .before .before .args in
-    named-passes (a .request) (lowestKey (locksState (a .counts) (now (a .may-read)) (now (a .may-write)) (now (a .readers)) (now (a .writers))) (a .rank)) (a .rank) (c .before .before .before .if1 .left)
+    named-passes (a .request) (lowestKey (locksState (a .counts) (now (a .may-read)) (now (a .may-write)) (now (a .readers)) (now (a .writers)) (now (a .certified))) (a .rank)) (a .rank) (c .before .before .before .if1 .left)
     (ap (passesBelow (a .rank)) (sym (c .before .before .lowest-key .ensures)) ∙ sym (c .before .passes .ensures) ∙ c .if2 .taken)
 
 returns-3 : tie.Need-returns-3
 returns-3 c =
     let a = c .before .before .before .before .args in
     c .before .before .lowest-key .ensures
-    ∙ named-stopped (a .request) (lowestKey (locksState (a .counts) (now (a .may-read)) (now (a .may-write)) (now (a .readers)) (now (a .writers))) (a .rank)) (a .rank) (c .before .before .before .if1 .left)
+    ∙ named-stopped (a .request) (lowestKey (locksState (a .counts) (now (a .may-read)) (now (a .may-write)) (now (a .readers)) (now (a .writers)) (now (a .certified))) (a .rank)) (a .rank) (c .before .before .before .if1 .left)
     (ap (passesBelow (a .rank)) (sym (c .before .before .lowest-key .ensures)) ∙ sym (c .before .passes .ensures) ∙ c .if2 .left)
 
 pub named-key-spec : {M : Type 1} → statement M

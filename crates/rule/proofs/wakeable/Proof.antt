@@ -19,18 +19,18 @@ use Rattle.rule.proofs.wakeable.Statement.{statement}
 use Rattle.rule.proofs.wakeable.Tie as tie
 
 abbrev Inv-loop : tie.InvT-loop
-Inv-loop counts may-read may-write readers writers request rank at done₀ done =
-    (done ≤ counts .objects) × ((rank + 1) * 65536 ≤ least done noKey (keyAt counts may-read may-write readers writers rank))
+Inv-loop counts may-read may-write readers writers certified request rank at done₀ done =
+    (done ≤ counts .objects) × ((rank + 1) * 65536 ≤ least done noKey (keyAt counts may-read may-write readers writers certified rank))
 
 abbrev μ-loop : tie.MeasureT-loop
-μ-loop counts may-read may-write readers writers request rank at done₀ done = counts .objects - done
+μ-loop counts may-read may-write readers writers certified request rank at done₀ done = counts .objects - done
 
 abbrev Inv-search : tie.InvT-search
-Inv-search counts may-read may-write readers writers request rank₀ rank =
-    (rank ≤ counts .jobs) × (firstNonzero rank (wakes (waitsState counts may-read may-write readers writers request)) ≡ 0)
+Inv-search counts may-read may-write readers writers certified request rank₀ rank =
+    (rank ≤ counts .jobs) × (firstNonzero rank (wakes (waitsState counts may-read may-write readers writers certified request)) ≡ 0)
 
 abbrev μ-search : tie.MeasureT-search
-μ-search counts may-read may-write readers writers request rank₀ rank = counts .jobs - rank
+μ-search counts may-read may-write readers writers certified request rank₀ rank = counts .jobs - rank
 
 search-holds : tie.Need-search-holds Inv-loop μ-loop Inv-search μ-search
 unfolding firstNonzero
@@ -68,12 +68,12 @@ search-again : tie.Need-search-again Inv-loop μ-loop Inv-search μ-search
 search-again c =
     let a = c .before .before .before .before .before .before .before .before .before .before .before .args in
     let rank = c .before .before .before .before .before .before .before .before .before .before .search .rank in
-    let key = keyAt (a .counts) (now (a .may-read)) (now (a .may-write)) (now (a .readers)) (now (a .writers)) (rank + 1) (c .before .before .before .before .before .loop .done + 1) in
+    let key = keyAt (a .counts) (now (a .may-read)) (now (a .may-write)) (now (a .readers)) (now (a .writers)) (now (a .certified)) (rank + 1) (c .before .before .before .before .before .loop .done + 1) in
     let stops : passesBelow (rank + 1) key ≡ false =
     ap (passesBelow (rank + 1)) (sym (c .before .before .key-at .ensures)) ∙ sym (c .before .passes .ensures) ∙ not-true _ (c .if4 .taken)
     in (
       search needs,
-      pass-stopped (a .counts) (now (a .may-read)) (now (a .may-write)) (now (a .readers)) (now (a .writers)) (now (a .request)) rank (c .before .before .before .before .before .before .before .before .before .before .search .inv .1) (c .before .before .before .before .before .loop .done + 1) (omega arith) (search needs) stops,
+      pass-stopped (a .counts) (now (a .may-read)) (now (a .may-write)) (now (a .readers)) (now (a .writers)) (now (a .certified)) (now (a .request)) rank (c .before .before .before .before .before .before .before .before .before .before .search .inv .1) (c .before .before .before .before .before .loop .done + 1) (omega arith) (search needs) stops,
     )
 
 loop-less : tie.Need-loop-less Inv-loop μ-loop Inv-search μ-search
@@ -85,7 +85,7 @@ loop-again c =
     let rank = c .before .before .before .before .before .before .before .before .before .before .search .rank in
     let passed : passesBelow (rank + 1) (c .before .before .key-at .result) ≡ true = sym (c .before .passes .ensures) ∙ not-false _ (c .if4 .left) in (
       search needs,
-      omega (arith, ltb-true (rank + 1) (c .before .before .key-at .result / 65536) passed, c .before .before .key-at .ensures, least-more (c .before .before .before .before .before .loop .done) noKey (keyAt (a .counts) (now (a .may-read)) (now (a .may-write)) (now (a .readers)) (now (a .writers)) (rank + 1))),
+      omega (arith, ltb-true (rank + 1) (c .before .before .key-at .result / 65536) passed, c .before .before .key-at .ensures, least-more (c .before .before .before .before .before .loop .done) noKey (keyAt (a .counts) (now (a .may-read)) (now (a .may-write)) (now (a .readers)) (now (a .writers)) (now (a .certified)) (rank + 1))),
     )
 
 search-less-2 : tie.Need-search-less-2 Inv-loop μ-loop Inv-search μ-search
@@ -96,7 +96,7 @@ search-again-2 c =
     let a = c .before .before .before .before .before .args in
     let rank = c .before .before .before .before .search .rank in (
       search needs,
-      pass-idle (a .counts) (now (a .may-read)) (now (a .may-write)) (now (a .readers)) (now (a .writers)) (now (a .request)) rank (c .before .before .before .before .search .inv .1) (c .if2 .left),
+      pass-idle (a .counts) (now (a .may-read)) (now (a .may-write)) (now (a .readers)) (now (a .writers)) (now (a .certified)) (now (a .request)) rank (c .before .before .before .before .search .inv .1) (c .if2 .left),
     )
 
 returns : tie.Need-returns Inv-loop μ-loop Inv-search μ-search
@@ -109,7 +109,7 @@ returns-2 c =
     let a = c .before .before .before .before .before .before .before .before .args in
     let rank = c .before .before .before .before .before .before .before .search .rank in
     let all : c .before .before .loop .done ≡ a .counts .objects = omega arith in
-    found (a .counts) (now (a .may-read)) (now (a .may-write)) (now (a .readers)) (now (a .writers)) (now (a .request)) rank (c .before .before .before .before .before .before .before .search .inv .1) (search needs) (c .before .before .before .if2 .taken)
+    found (a .counts) (now (a .may-read)) (now (a .may-write)) (now (a .readers)) (now (a .writers)) (now (a .certified)) (now (a .request)) rank (c .before .before .before .before .before .before .before .search .inv .1) (search needs) (c .before .before .before .if2 .taken)
     (rw all at (c .before .before .loop .inv .1))
 
 pub wakeable-spec : {M : Type 1} → statement M

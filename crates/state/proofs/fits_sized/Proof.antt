@@ -17,16 +17,17 @@ fits-requires c κs = search needs
 
 returns : tie.Need-returns
 returns c =
-    let a = c .before .before .before .before .before .before .before .before .args in
-    let z : Sized (stateOf (a .counts) (now (a .processor-of)) (now (a .may-read)) (now (a .may-write)) (a .active) (a .unlocked) (now (a .readers)) (now (a .writers)) (now (a .request))) = record {
+    let a = c .before .before .before .before .before .before .before .before .before .args in
+    let z : Sized (stateOf (a .counts) (now (a .processor-of)) (now (a .may-read)) (now (a .may-write)) (a .active) (a .unlocked) (now (a .readers)) (now (a .writers)) (now (a .certified)) (now (a .request))) = record {
       processor-of = search needs;
       may-read = search needs;
       may-write = search needs;
       readers = search needs;
       writers = search needs;
+      certified = search needs;
       request = search needs;
     } in
-    let long : c .before .have-lengths .result ≡ true = c .before .have-lengths .ensures ∙ simp (z .processor-of, z .may-read, z .may-write, z .readers, z .writers, z .request) in
+    let long : c .before .have-lengths .result ≡ true = c .before .have-lengths .ensures ∙ simp (z .processor-of, z .may-read, z .may-write, z .readers, z .writers, z .certified, z .request) in
     (ap₂ _&&_ long (c .fits2 .ensures), z)
 
 pub fits-sized-spec : {M : Type 1} → statement M

@@ -45,7 +45,7 @@ returns : tie.Need-returns
 returns c =
     let a = c .before .before .before .before .before .args in
     c .object-key .ensures
-    ∙ sym (key-there (a .counts) (now (a .may-read)) (now (a .may-write)) (now (a .readers)) (now (a .writers)) (a .rank) (a .object) (omega arith))
+    ∙ sym (key-there (a .counts) (now (a .may-read)) (now (a .may-write)) (now (a .readers)) (now (a .writers)) (now (a .certified)) (a .rank) (a .object) (omega arith))
 
 pub key-at-spec : {M : Type 1} → statement M
 key-at-spec =

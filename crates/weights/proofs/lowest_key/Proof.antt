@@ -13,11 +13,11 @@ use Rattle.weights.proofs.lowest_key.Statement.{statement}
 use Rattle.weights.proofs.lowest_key.Tie as tie
 
 abbrev Inv-loop : tie.InvT-loop
-Inv-loop counts may-read may-write readers writers rank objects lowest₀ done₀ lowest done =
-    (done ≤ objects) × (lowest ≡ least done noKey (keyAt counts may-read may-write readers writers rank))
+Inv-loop counts may-read may-write readers writers certified rank objects lowest₀ done₀ lowest done =
+    (done ≤ objects) × (lowest ≡ least done noKey (keyAt counts may-read may-write readers writers certified rank))
 
 abbrev μ-loop : tie.MeasureT-loop
-μ-loop counts may-read may-write readers writers rank objects lowest₀ done₀ lowest done = objects - done
+μ-loop counts may-read may-write readers writers certified rank objects lowest₀ done₀ lowest done = objects - done
 
 loop-holds : tie.Need-loop-holds Inv-loop μ-loop
 unfolding least
@@ -41,15 +41,15 @@ loop-again c =
     let done = c .before .before .before .loop .done in (
       search needs,
       c .lower .ensures ∙ ap₂ min (c .before .before .before .loop .inv .1) (c .before .key-at .ensures)
-          ∙ sym (least-more done noKey (keyAt (a .counts) (now (a .may-read)) (now (a .may-write)) (now (a .readers)) (now (a .writers)) (a .rank))),
+          ∙ sym (least-more done noKey (keyAt (a .counts) (now (a .may-read)) (now (a .may-write)) (now (a .readers)) (now (a .writers)) (now (a .certified)) (a .rank))),
     )
 
 returns : tie.Need-returns Inv-loop μ-loop
 returns c =
     let a = c .before .before .args in
     let all : c .before .loop .done ≡ a .counts .objects = omega arith in
-    c .before .loop .inv .1 ∙ ap (λ (n : ℕ). least n noKey (keyAt (a .counts) (now (a .may-read)) (now (a .may-write)) (now (a .readers)) (now (a .writers)) (a .rank))) all
-    ∙ sym (lowest-key-at (a .counts) (now (a .may-read)) (now (a .may-write)) (now (a .readers)) (now (a .writers)) (a .rank))
+    c .before .loop .inv .1 ∙ ap (λ (n : ℕ). least n noKey (keyAt (a .counts) (now (a .may-read)) (now (a .may-write)) (now (a .readers)) (now (a .writers)) (now (a .certified)) (a .rank))) all
+    ∙ sym (lowest-key-at (a .counts) (now (a .may-read)) (now (a .may-write)) (now (a .readers)) (now (a .writers)) (now (a .certified)) (a .rank))
 
 pub lowest-key-spec : {M : Type 1} → statement M
 lowest-key-spec =

@@ -20,16 +20,16 @@ use Rattle.state.proofs.jobs.waits_fit.Statement.{statement}
 use Rattle.state.proofs.jobs.waits_fit.Tie as tie
 
 abbrev Inv-loop : tie.InvT-loop
-Inv-loop counts may-read may-write active unlocked readers writers request from₀ from =
-    (from % 4 ≡ 0) × (from ≤ mostJobs) × (every from (waitFits (stateOf counts [] may-read may-write active unlocked readers writers request)) ≡ true)
+Inv-loop counts may-read may-write active unlocked readers writers certified request from₀ from =
+    (from % 4 ≡ 0) × (from ≤ mostJobs) × (every from (waitFits (stateOf counts [] may-read may-write active unlocked readers writers certified request)) ≡ true)
 
 abbrev μ-loop : tie.MeasureT-loop
-μ-loop counts may-read may-write active unlocked readers writers request from₀ from = mostJobs - from
+μ-loop counts may-read may-write active unlocked readers writers certified request from₀ from = mostJobs - from
 
 -- the state that the parts are of
 abbrev whole : (c : tie.Start Inv-loop μ-loop) → State
 whole c = let a = c .args in
-    stateOf (a .counts) [] (now (a .may-read)) (now (a .may-write)) (a .active) (a .unlocked) (now (a .readers)) (now (a .writers)) (now (a .request))
+    stateOf (a .counts) [] (now (a .may-read)) (now (a .may-write)) (a .active) (a .unlocked) (now (a .readers)) (now (a .writers)) (now (a .certified)) (now (a .request))
 
 none-waits-requires : tie.Need-none-waits-requires Inv-loop μ-loop
 none-waits-requires c κs = search needs
@@ -47,7 +47,7 @@ unfolding every
 loop-holds c = (omega arith, omega arith, refl)
 
 four-fit-requires : tie.Need-four-fit-requires Inv-loop μ-loop
-four-fit-requires c κs = (c .before .before .before .before .pre, omega (arith, c .loop-test .taken, c .before .loop .inv .0))
+four-fit-requires c κs = (c .before .before .before .before .pre .0, c .before .before .before .before .pre .1, omega (arith, c .loop-test .taken, c .before .loop .inv .0))
 
 returns-2 : tie.Need-returns-2 Inv-loop μ-loop
 unfolding waitsFit

@@ -15,11 +15,11 @@ use Rattle.state.proofs.locks.block_wrong.Statement.{statement}
 use Rattle.state.proofs.locks.block_wrong.Tie as tie
 
 abbrev Inv-loop : tie.InvT-loop
-Inv-loop may-read may-write readers writers from wrong₀ k₀ wrong k =
-    (k ≤ blockSize) × (isEmpty wrong ≡ every k (λ j. objectInOrder may-read may-write readers writers (from + j)))
+Inv-loop alone may-read may-write readers writers from wrong₀ k₀ wrong k =
+    (k ≤ blockSize) × (isEmpty wrong ≡ every k (λ j. objectInOrder may-read may-write readers writers alone (from + j)))
 
 abbrev μ-loop : tie.MeasureT-loop
-μ-loop may-read may-write readers writers from wrong₀ k₀ wrong k = blockSize - k
+μ-loop alone may-read may-write readers writers from wrong₀ k₀ wrong k = blockSize - k
 
 loop-holds : tie.Need-loop-holds Inv-loop μ-loop
 unfolding every
@@ -67,7 +67,7 @@ loop-less c = search needs
 loop-again : tie.Need-loop-again Inv-loop μ-loop
 loop-again c =
     let a = c .before .before .before .before .before .before .before .before .args in
-    let order = objectInOrder (now (a .may-read)) (now (a .may-write)) (now (a .readers)) (now (a .writers)) in
+    let order = objectInOrder (now (a .may-read)) (now (a .may-write)) (now (a .readers)) (now (a .writers)) (a .alone) in
     let i = c .before .before .before .before .before .before .before .loop .k in
     let next : suc (a .from + i) ≡ a .from + (i + 1) = omega arith in (
       omega arith,
@@ -79,7 +79,7 @@ returns : tie.Need-returns Inv-loop μ-loop
 returns c =
     let a = c .before .before .args in
     let e : c .before .loop .k ≡ blockSize = omega arith in
-    c .before .loop .inv .1 ∙ ap (λ (n : ℕ). every n (λ j. objectInOrder (now (a .may-read)) (now (a .may-write)) (now (a .readers)) (now (a .writers)) (a .from + j))) e
+    c .before .loop .inv .1 ∙ ap (λ (n : ℕ). every n (λ j. objectInOrder (now (a .may-read)) (now (a .may-write)) (now (a .readers)) (now (a .writers)) (a .alone) (a .from + j))) e
 
 pub block-wrong-spec : {M : Type 1} → statement M
 block-wrong-spec =

@@ -20,12 +20,12 @@ use Rattle.state.proofs.locks.survey_objects.Statement.{statement}
 use Rattle.state.proofs.locks.survey_objects.Tie as tie
 
 abbrev Inv-loop : tie.InvT-loop
-Inv-loop may-read may-write readers writers objects count declared held₀ wrong₀ i₀ held wrong i =
+Inv-loop alone may-read may-write readers writers objects count declared held₀ wrong₀ i₀ held wrong i =
     (i % blockSize ≡ 0) × (i < objects + blockSize) × (held ≡ unions i (heldOn may-read may-write readers writers))
-    × (isEmpty wrong ≡ every i (objectInOrder may-read may-write readers writers))
+    × (isEmpty wrong ≡ every i (objectInOrder may-read may-write readers writers alone))
 
 abbrev μ-loop : tie.MeasureT-loop
-μ-loop may-read may-write readers writers objects count declared held₀ wrong₀ i₀ held wrong i = count + blockSize - i
+μ-loop alone may-read may-write readers writers objects count declared held₀ wrong₀ i₀ held wrong i = count + blockSize - i
 
 union-of-requires : tie.Need-union-of-requires Inv-loop μ-loop
 union-of-requires c κs = search needs
@@ -77,19 +77,19 @@ loop-again c =
     let i = c .before .before .before .before .before .before .loop .i in
     let inv = c .before .before .before .before .before .before .loop .inv in
     let locks = c .before .before .union2 .ensures ∙ ap₂ union (c .before .before .before .before .union-of3 .ensures) (c .before .before .before .union-of4 .ensures) in
-    let more = ap₂ union (inv .2) locks ∙ held-more mr mw rd wr i in
+    let more = ap₂ union (inv .2) locks ∙ held-more (a .alone) mr mw rd wr i in
     elim (c .if1 .came) [
       | inl t ↦ (
         omega (arith, inv .0),
         omega arith,
         t .4 ∙ t .1 .ensures ∙ more,
-        ap isEmpty (t .5 ∙ t .3 .ensures) ∙ order-more mr mw rd wr i (c .before .before .before .before .before .before .loop .wrong) (t .2 .result) (inv .3) (t .2 .ensures),
+        ap isEmpty (t .5 ∙ t .3 .ensures) ∙ order-more (a .alone) mr mw rd wr i (c .before .before .before .before .before .before .loop .wrong) (t .2 .result) (inv .3) (t .2 .ensures),
       )
       | inr t ↦ (let none = eqb-true (c .before .before .union2 .result) 0 (sym (c .before .is-empty .ensures) ∙ not-false (c .before .is-empty .result) (t .0 .left)) in (
         omega (arith, inv .0),
         omega arith,
         t .1 ∙ sym (or-zero-r (c .before .before .before .before .before .before .loop .held)) ∙ ap (union (c .before .before .before .before .before .before .loop .held)) (sym none) ∙ more,
-        ap isEmpty (t .2) ∙ unlocked-more mr mw rd wr i (c .before .before .before .before .before .before .loop .wrong) (inv .3) (sym locks ∙ none),
+        ap isEmpty (t .2) ∙ unlocked-more (a .alone) mr mw rd wr i (c .before .before .before .before .before .before .loop .wrong) (inv .3) (sym locks ∙ none),
       ))
     ]
 
@@ -106,7 +106,7 @@ returns c =
       declared = c .before .before .union .ensures ∙ ap₂ union (c .before .before .before .before .union-of .ensures) (c .before .before .before .union-of2 .ensures) ∙ unions-both (a .objects) (λ k. at mr (0 + k)) (λ k. at mw (0 + k))
           ∙ (λ p. unions (a .objects) (λ k. union (at mr (zero-add k p)) (at mw (zero-add k p))));
       held = inv .2 ∙ ap (λ (n : ℕ). unions n (heldOn mr mw rd wr)) e;
-      wrong = inv .3 ∙ ap (λ (n : ℕ). every n (objectInOrder mr mw rd wr)) e;
+      wrong = inv .3 ∙ ap (λ (n : ℕ). every n (objectInOrder mr mw rd wr (a .alone))) e;
     }
 
 pub survey-objects-spec : {M : Type 1} → statement M
