@@ -4,7 +4,11 @@
  * The caller keeps the state in a struct, sends events to it, and asks questions about it. A job is its rank: 1 is the most urgent. Ranks and
  * objects count from 1, processors from 0.
  *
- * Every call may be given any contents of the struct, any bytes and any numbers: it answers, or refuses by a number from 1 to 23 (below).
+ * A table is of version 1 or 2. With version 2 each object has a copy that readers see and one that its writer works on, so that a write lock may stand
+ * beside the read locks of others. Before its run can finish, a job turns each of its write locks into a certify lock, which stands alone: under it the
+ * job's copy takes the place of the one that readers see.
+ *
+ * Every call may be given any contents of the struct, any bytes and any numbers: it answers, or refuses by a number from 1 to 25 (below).
  * A call that refuses leaves every byte that was lent to it as it was; an event that is refused in a list of events leaves the state as it was, and has its
  * answer as the others have. No call allocates, blocks, ends the program or keeps anything between calls, so that two threads may work on two states.
  * Reading a table takes about 6 KB of stack and writing one about 14 KB, an event, a list of events, a question, the state page or a test load less
@@ -40,6 +44,7 @@ extern "C" {
 /* A table and its locks. In a set of ranks, rank r is bit r - 1. All is filled in by vongselik_read_table, and changed by vongselik_event
  * and vongselik_events. */
 typedef struct vongselik_state {
+    uint8_t version;                                   /* 1 or 2 */
     uint8_t processors;                                /* 1 to 8 */
     uint8_t jobs;                                      /* 1 to 64: the ranks are 1 to jobs */
     uint8_t objects;                                   /* 1 to 128: the objects are 1 to objects */
@@ -49,8 +54,9 @@ typedef struct vongselik_state {
     uint64_t active;                                   /* the ranks of active jobs */
     uint64_t unlocked;                                 /* the ranks of jobs that have unlocked in this run, and may not lock any more */
     uint64_t readers[VONGSELIK_MOST_OBJECTS];          /* by object - 1: the ranks that hold a read lock */
-    uint64_t writers[VONGSELIK_MOST_OBJECTS];          /* by object - 1: the rank that holds the write lock, to the end of its run */
-    uint16_t request[VONGSELIK_MOST_JOBS];             /* by rank - 1: 0 if the job does not wait, else mode * 256 + object (mode 1 read, 2 write) */
+    uint64_t writers[VONGSELIK_MOST_OBJECTS];          /* by object - 1: the rank that holds the write or certify lock, to the end of its run */
+    uint64_t certified[2];                             /* object o is bit (o - 1) % 64 of word (o - 1) / 64: its write lock is a certify lock */
+    uint16_t request[VONGSELIK_MOST_JOBS];             /* by rank - 1: 0 if the job does not wait, else mode * 256 + object (1 read, 2 write, 3 certify) */
 } vongselik_state;
 
 /* ---- Numbers */
@@ -60,9 +66,10 @@ enum {
     VONGSELIK_START = 1,      /* an idle job becomes active */
     VONGSELIK_READ_LOCK = 2,  /* granted, or the job waits */
     VONGSELIK_WRITE_LOCK = 3, /* granted, or the job waits */
-    VONGSELIK_UNLOCK = 4,     /* for read locks: gives up the lock; the job may lock no more in this run. Write locks stay until the end */
+    VONGSELIK_UNLOCK = 4,     /* for read locks: gives up the lock; the job may lock no more in this run. Write and certify locks stay until the end */
     VONGSELIK_FINISH = 5,     /* ends the run and releases everything */
-    VONGSELIK_ABANDON = 6     /* as finish, also for a waiting job, whose request is dropped */
+    VONGSELIK_ABANDON = 6,    /* as finish, also for a waiting job, whose request is dropped, and with write locks that are not certified */
+    VONGSELIK_CERTIFY = 7     /* on a version 2 table, turns the job's write lock into a certify lock: granted, or the job waits and keeps the write lock */
 };
 
 /* Answers to an event. */
@@ -73,9 +80,10 @@ enum {
     VONGSELIK_REFUSED = 4  /* refusal: the number; nothing has changed */
 };
 
-/* Reasons of a wait. */
+/* Reasons of a wait. Two locks on an object conflict, on a version 1 table, if either is a write lock; on a version 2 table, if either is a certify lock or
+ * both are write locks. */
 enum {
-    VONGSELIK_CONFLICT = 1, /* the named lock is on the requested object, and either is a write */
+    VONGSELIK_CONFLICT = 1, /* the named lock is on the requested object, and conflicts with the requested lock */
     VONGSELIK_CEILING = 2,  /* the named lock's ceiling is too urgent */
     VONGSELIK_CAP = 3       /* the named lock is a read lock whose holder is more urgent than its ceiling */
 };
@@ -86,7 +94,7 @@ enum {
     /* by the table bytes */
     VONGSELIK_BYTES_END_EARLY = 1,
     VONGSELIK_WRONG_MARK = 2,
-    VONGSELIK_WRONG_VERSION = 3,
+    VONGSELIK_WRONG_VERSION = 3, /* neither 1 nor 2 */
     VONGSELIK_COUNT_OUT_OF_RANGE = 4,
     VONGSELIK_PROCESSOR_BYTE_TOO_LARGE = 5,
     VONGSELIK_ENTRY_OUT_OF_RANGE = 6,
@@ -94,21 +102,23 @@ enum {
     /* by the state handed in */
     VONGSELIK_STATE_NOT_WELL_FORMED = 8,
     /* by the event or the question */
-    VONGSELIK_UNKNOWN_KIND = 9,
+    VONGSELIK_UNKNOWN_KIND = 9, /* or certify on a version 1 table */
     VONGSELIK_RANK_OUT_OF_RANGE = 10,
     VONGSELIK_OBJECT_OUT_OF_RANGE = 11, /* or not 0 for start, finish and abandon */
     VONGSELIK_ALREADY_ACTIVE = 12,
     VONGSELIK_IDLE = 13,
     VONGSELIK_WAITING = 14,
-    VONGSELIK_LOCK_AFTER_UNLOCK = 15,
-    VONGSELIK_NOT_DECLARED = 16,
-    VONGSELIK_ALREADY_HELD = 17,
+    VONGSELIK_LOCK_AFTER_UNLOCK = 15, /* or certify */
+    VONGSELIK_NOT_DECLARED = 16, /* for certify: the right to write */
+    VONGSELIK_ALREADY_HELD = 17, /* that lock, or the write or certify lock; for certify: the certify lock alone */
     VONGSELIK_NOT_HELD = 18,
     VONGSELIK_NO_SUCH_PROCESSOR = 19,
     VONGSELIK_BUFFER_TOO_SHORT = 20, /* for the table */
-    VONGSELIK_UNLOCK_OF_WRITE_LOCK = 21,
+    VONGSELIK_UNLOCK_OF_WRITE_LOCK = 21, /* or of a certify lock */
     VONGSELIK_BUFFER_TOO_SHORT_FOR_PAGE = 22,
-    VONGSELIK_BUFFER_TOO_SHORT_FOR_EVENTS = 23 /* shorter than three times the count */
+    VONGSELIK_BUFFER_TOO_SHORT_FOR_EVENTS = 23, /* shorter than three times the count */
+    VONGSELIK_CERTIFY_WITHOUT_WRITE_LOCK = 24,
+    VONGSELIK_FINISH_WITHOUT_CERTIFY = 25 /* on a version 2 table, finish with a write lock that is not certified */
 };
 
 /* The answer to an event. What its case does not have is 0. */
@@ -131,52 +141,56 @@ typedef struct vongselik_entries {
 /* ---- The proved functions. They take the parts of a state one by one; write the calls below instead. */
 
 uint32_t vongselik_parts_event(
-    uint8_t processors, uint8_t jobs, uint8_t objects, const uint8_t *processor_of, const uint64_t *may_read, const uint64_t *may_write,
-    uint64_t *active, uint64_t *unlocked, uint64_t *readers, uint64_t *writers, uint16_t *request, uint8_t kind, uint8_t rank, uint8_t object);
+    uint8_t version, uint8_t processors, uint8_t jobs, uint8_t objects, const uint8_t *processor_of, const uint64_t *may_read, const uint64_t *may_write,
+    uint64_t *active, uint64_t *unlocked, uint64_t *readers, uint64_t *writers, uint64_t *certified, uint16_t *request,
+    uint8_t kind, uint8_t rank, uint8_t object);
 
 size_t vongselik_parts_events(
-    uint8_t processors, uint8_t jobs, uint8_t objects, const uint8_t *processor_of, const uint64_t *may_read, const uint64_t *may_write,
-    uint64_t *active, uint64_t *unlocked, uint64_t *readers, uint64_t *writers, uint16_t *request, const uint8_t *events, size_t events_size,
-    uint32_t *answers, size_t answers_size);
+    uint8_t version, uint8_t processors, uint8_t jobs, uint8_t objects, const uint8_t *processor_of, const uint64_t *may_read, const uint64_t *may_write,
+    uint64_t *active, uint64_t *unlocked, uint64_t *readers, uint64_t *writers, uint64_t *certified, uint16_t *request,
+    const uint8_t *events, size_t events_size, uint32_t *answers, size_t answers_size);
 
 uint8_t vongselik_parts_inherited_rank(
-    uint8_t processors, uint8_t jobs, uint8_t objects, const uint8_t *processor_of, const uint64_t *may_read, const uint64_t *may_write,
-    uint64_t active, uint64_t unlocked, const uint64_t *readers, const uint64_t *writers, const uint16_t *request, uint8_t rank, uint8_t *inherited);
+    uint8_t version, uint8_t processors, uint8_t jobs, uint8_t objects, const uint8_t *processor_of, const uint64_t *may_read, const uint64_t *may_write,
+    uint64_t active, uint64_t unlocked, const uint64_t *readers, const uint64_t *writers, const uint64_t *certified, const uint16_t *request,
+    uint8_t rank, uint8_t *inherited);
 
 uint8_t vongselik_parts_named_lock(
-    uint8_t processors, uint8_t jobs, uint8_t objects, const uint8_t *processor_of, const uint64_t *may_read, const uint64_t *may_write,
-    uint64_t active, uint64_t unlocked, const uint64_t *readers, const uint64_t *writers, const uint16_t *request, uint8_t rank, uint8_t *holder,
-    uint8_t *object);
+    uint8_t version, uint8_t processors, uint8_t jobs, uint8_t objects, const uint8_t *processor_of, const uint64_t *may_read, const uint64_t *may_write,
+    uint64_t active, uint64_t unlocked, const uint64_t *readers, const uint64_t *writers, const uint64_t *certified, const uint16_t *request,
+    uint8_t rank, uint8_t *holder, uint8_t *object);
 
 uint8_t vongselik_parts_ceilings(
-    uint8_t processors, uint8_t jobs, uint8_t objects, const uint8_t *processor_of, const uint64_t *may_read, const uint64_t *may_write,
-    uint64_t active, uint64_t unlocked, const uint64_t *readers, const uint64_t *writers, const uint16_t *request, uint8_t object,
-    uint16_t *write_ceiling, uint16_t *absolute_ceiling);
+    uint8_t version, uint8_t processors, uint8_t jobs, uint8_t objects, const uint8_t *processor_of, const uint64_t *may_read, const uint64_t *may_write,
+    uint64_t active, uint64_t unlocked, const uint64_t *readers, const uint64_t *writers, const uint64_t *certified, const uint16_t *request,
+    uint8_t object, uint16_t *write_ceiling, uint16_t *absolute_ceiling);
 
 uint8_t vongselik_parts_running(
-    uint8_t processors, uint8_t jobs, uint8_t objects, const uint8_t *processor_of, const uint64_t *may_read, const uint64_t *may_write,
-    uint64_t active, uint64_t unlocked, const uint64_t *readers, const uint64_t *writers, const uint16_t *request, uint8_t processor, uint8_t *rank);
+    uint8_t version, uint8_t processors, uint8_t jobs, uint8_t objects, const uint8_t *processor_of, const uint64_t *may_read, const uint64_t *may_write,
+    uint64_t active, uint64_t unlocked, const uint64_t *readers, const uint64_t *writers, const uint64_t *certified, const uint16_t *request,
+    uint8_t processor, uint8_t *rank);
 
 uint8_t vongselik_parts_read_table(
-    const uint8_t *bytes, size_t size, size_t *used, uint8_t *processors, uint8_t *jobs, uint8_t *objects, uint8_t *processor_of, uint64_t *may_read,
-    uint64_t *may_write, uint64_t *active, uint64_t *unlocked, uint64_t *readers, uint64_t *writers, uint16_t *request);
+    const uint8_t *bytes, size_t size, size_t *used, uint8_t *version, uint8_t *processors, uint8_t *jobs, uint8_t *objects, uint8_t *processor_of,
+    uint64_t *may_read, uint64_t *may_write, uint64_t *active, uint64_t *unlocked, uint64_t *readers, uint64_t *writers, uint64_t *certified,
+    uint16_t *request);
 
 uint8_t vongselik_parts_job_entries(const uint8_t *bytes, size_t size, uint8_t rank, size_t *start, size_t *length);
 
 uint8_t vongselik_parts_write_table(
-    uint8_t processors, uint8_t jobs, uint8_t objects, const uint8_t *processor_of, const uint64_t *may_read, const uint64_t *may_write,
-    uint64_t active, uint64_t unlocked, const uint64_t *readers, const uint64_t *writers, const uint16_t *request, uint8_t *buffer, size_t size,
-    size_t *length);
+    uint8_t version, uint8_t processors, uint8_t jobs, uint8_t objects, const uint8_t *processor_of, const uint64_t *may_read, const uint64_t *may_write,
+    uint64_t active, uint64_t unlocked, const uint64_t *readers, const uint64_t *writers, const uint64_t *certified, const uint16_t *request,
+    uint8_t *buffer, size_t size, size_t *length);
 
 uint8_t vongselik_parts_page(
-    uint8_t processors, uint8_t jobs, uint8_t objects, const uint8_t *processor_of, const uint64_t *may_read, const uint64_t *may_write,
-    uint64_t active, uint64_t unlocked, const uint64_t *readers, const uint64_t *writers, const uint16_t *request, uint8_t *buffer, size_t size,
-    size_t *length);
+    uint8_t version, uint8_t processors, uint8_t jobs, uint8_t objects, const uint8_t *processor_of, const uint64_t *may_read, const uint64_t *may_write,
+    uint64_t active, uint64_t unlocked, const uint64_t *readers, const uint64_t *writers, const uint64_t *certified, const uint16_t *request,
+    uint8_t *buffer, size_t size, size_t *length);
 
 uint8_t vongselik_parts_make_events(
-    uint8_t processors, uint8_t jobs, uint8_t objects, const uint8_t *processor_of, const uint64_t *may_read, const uint64_t *may_write,
-    uint64_t active, uint64_t unlocked, const uint64_t *readers, const uint64_t *writers, const uint16_t *request, uint32_t *seed, size_t count,
-    uint8_t *buffer, size_t size);
+    uint8_t version, uint8_t processors, uint8_t jobs, uint8_t objects, const uint8_t *processor_of, const uint64_t *may_read, const uint64_t *may_write,
+    uint64_t active, uint64_t unlocked, const uint64_t *readers, const uint64_t *writers, const uint64_t *certified, const uint16_t *request,
+    uint32_t *seed, size_t count, uint8_t *buffer, size_t size);
 
 /* ---- Tables */
 
@@ -187,8 +201,8 @@ static inline uint8_t vongselik_read_table(vongselik_state *state, const uint8_t
 {
     const uint8_t none = 0;
     return vongselik_parts_read_table(
-        size ? bytes : &none, size, used, &state->processors, &state->jobs, &state->objects, state->processor_of, state->may_read, state->may_write,
-        &state->active, &state->unlocked, state->readers, state->writers, state->request);
+        size ? bytes : &none, size, used, &state->version, &state->processors, &state->jobs, &state->objects, state->processor_of, state->may_read,
+        state->may_write, &state->active, &state->unlocked, state->readers, state->writers, state->certified, state->request);
 }
 
 /* Says where the entries of one job stand in table bytes; length 0 if it has none.
@@ -207,8 +221,8 @@ static inline uint8_t vongselik_write_table(const vongselik_state *state, uint8_
 {
     uint8_t none = 0;
     return vongselik_parts_write_table(
-        state->processors, state->jobs, state->objects, state->processor_of, state->may_read, state->may_write, state->active, state->unlocked,
-        state->readers, state->writers, state->request, size ? buffer : &none, size, length);
+        state->version, state->processors, state->jobs, state->objects, state->processor_of, state->may_read, state->may_write, state->active,
+        state->unlocked, state->readers, state->writers, state->certified, state->request, size ? buffer : &none, size, length);
 }
 
 /* ---- Events */
@@ -231,18 +245,18 @@ static inline vongselik_answer vongselik_unpack(uint32_t packed)
 }
 
 /* An event of a job: its kind, its rank, and an object (0 for start, finish and abandon). Changes the state, and answers granted, waits or done.
- * Refusals: 8 to 18, 21, by the answer VONGSELIK_REFUSED. The state is then as it was. The table in the state is never changed. */
+ * Refusals: 8 to 18, 21, 24, 25, by the answer VONGSELIK_REFUSED. The state is then as it was. The table in the state is never changed. */
 static inline vongselik_answer vongselik_event(vongselik_state *state, uint8_t kind, uint8_t rank, uint8_t object)
 {
     return vongselik_unpack(vongselik_parts_event(
-        state->processors, state->jobs, state->objects, state->processor_of, state->may_read, state->may_write, &state->active, &state->unlocked,
-        state->readers, state->writers, state->request, kind, rank, object));
+        state->version, state->processors, state->jobs, state->objects, state->processor_of, state->may_read, state->may_write, &state->active,
+        &state->unlocked, state->readers, state->writers, state->certified, state->request, kind, rank, object));
 }
 
 /* A list of events, three bytes each: kind, rank, object. Changes the state and answers them in their order, each as vongselik_event does:
  * answers[i] is the packed answer to the event at byte 3 * i (vongselik_unpack). The events are 3 * count bytes, the answers count elements.
  * The whole state is tested once, and not at each event. Answers how many events it answered: count.
- * Refusals: 8 to 18, 21, each event's by its own answer. A refused event leaves the state as it was, and those after it are answered all the same;
+ * Refusals: 8 to 18, 21, 24, 25, each event's by its own answer. A refused event leaves the state as it was, and those after it are answered all the same;
  * a state that is not well formed refuses every event by 8, and is then as it was. The table in the state is never changed.
  * Use it for a replay, a log or a test. In live control send one event at a time: here nobody sees an answer before all are given, and there
  * another may ask about the state or change it between two events. */
@@ -251,8 +265,9 @@ static inline size_t vongselik_events(vongselik_state *state, const uint8_t *eve
     const uint8_t no_event = 0;
     uint32_t no_answer = 0;
     return vongselik_parts_events(
-        state->processors, state->jobs, state->objects, state->processor_of, state->may_read, state->may_write, &state->active, &state->unlocked,
-        state->readers, state->writers, state->request, count ? events : &no_event, 3 * count, count ? answers : &no_answer, count);
+        state->version, state->processors, state->jobs, state->objects, state->processor_of, state->may_read, state->may_write, &state->active,
+        &state->unlocked, state->readers, state->writers, state->certified, state->request, count ? events : &no_event, 3 * count,
+        count ? answers : &no_answer, count);
 }
 
 /* ---- Questions. The state is only read. */
@@ -262,8 +277,8 @@ static inline size_t vongselik_events(vongselik_state *state, const uint8_t *eve
 static inline uint8_t vongselik_inherited_rank(const vongselik_state *state, uint8_t rank, uint8_t *inherited)
 {
     return vongselik_parts_inherited_rank(
-        state->processors, state->jobs, state->objects, state->processor_of, state->may_read, state->may_write, state->active, state->unlocked,
-        state->readers, state->writers, state->request, rank, inherited);
+        state->version, state->processors, state->jobs, state->objects, state->processor_of, state->may_read, state->may_write, state->active,
+        state->unlocked, state->readers, state->writers, state->certified, state->request, rank, inherited);
 }
 
 /* Sets *holder and *object to the lock that an active job names, 0 and 0 if it names nobody. Answers 0.
@@ -271,8 +286,8 @@ static inline uint8_t vongselik_inherited_rank(const vongselik_state *state, uin
 static inline uint8_t vongselik_named_lock(const vongselik_state *state, uint8_t rank, uint8_t *holder, uint8_t *object)
 {
     return vongselik_parts_named_lock(
-        state->processors, state->jobs, state->objects, state->processor_of, state->may_read, state->may_write, state->active, state->unlocked,
-        state->readers, state->writers, state->request, rank, holder, object);
+        state->version, state->processors, state->jobs, state->objects, state->processor_of, state->may_read, state->may_write, state->active,
+        state->unlocked, state->readers, state->writers, state->certified, state->request, rank, holder, object);
 }
 
 /* The ceiling of an object of the state's table that nobody is declared to lock in that way: one past the last rank. */
@@ -284,8 +299,8 @@ static inline uint8_t vongselik_named_lock(const vongselik_state *state, uint8_t
 static inline uint8_t vongselik_ceilings(const vongselik_state *state, uint8_t object, uint16_t *write_ceiling, uint16_t *absolute_ceiling)
 {
     return vongselik_parts_ceilings(
-        state->processors, state->jobs, state->objects, state->processor_of, state->may_read, state->may_write, state->active, state->unlocked,
-        state->readers, state->writers, state->request, object, write_ceiling, absolute_ceiling);
+        state->version, state->processors, state->jobs, state->objects, state->processor_of, state->may_read, state->may_write, state->active,
+        state->unlocked, state->readers, state->writers, state->certified, state->request, object, write_ceiling, absolute_ceiling);
 }
 
 /* Sets *rank to the job that the processor runs: its active job that is not waiting with the most urgent inherited rank; 0 if the processor is idle. Answers 0.
@@ -293,8 +308,8 @@ static inline uint8_t vongselik_ceilings(const vongselik_state *state, uint8_t o
 static inline uint8_t vongselik_running(const vongselik_state *state, uint8_t processor, uint8_t *rank)
 {
     return vongselik_parts_running(
-        state->processors, state->jobs, state->objects, state->processor_of, state->may_read, state->may_write, state->active, state->unlocked,
-        state->readers, state->writers, state->request, processor, rank);
+        state->version, state->processors, state->jobs, state->objects, state->processor_of, state->may_read, state->may_write, state->active,
+        state->unlocked, state->readers, state->writers, state->certified, state->request, processor, rank);
 }
 
 /* ---- The state page */
@@ -308,8 +323,8 @@ static inline uint8_t vongselik_page(const vongselik_state *state, uint8_t *buff
 {
     uint8_t none = 0;
     return vongselik_parts_page(
-        state->processors, state->jobs, state->objects, state->processor_of, state->may_read, state->may_write, state->active, state->unlocked,
-        state->readers, state->writers, state->request, size ? buffer : &none, size, length);
+        state->version, state->processors, state->jobs, state->objects, state->processor_of, state->may_read, state->may_write, state->active,
+        state->unlocked, state->readers, state->writers, state->certified, state->request, size ? buffer : &none, size, length);
 }
 
 /* ---- A test load */
@@ -318,7 +333,7 @@ static inline uint8_t vongselik_page(const vongselik_state *state, uint8_t *buff
  * and leaves the rest of the buffer untouched. Answers 0.
  * Each event takes three steps of the seed. A step multiplies the seed by 1664525, adds 1013904223 and keeps the lowest 32 bits; the topmost 8 of them are
  * the step's number. The kind is 1 plus the first number modulo 6, the rank 1 plus the second modulo the number of jobs, the object 1 plus the third modulo
- * the number of objects. For start, finish and abandon the object is 0; the third step is taken all the same.
+ * the number of objects. For start, finish and abandon the object is 0; the third step is taken all the same. No event is a certify, on either version.
  * The same numbers of jobs and objects, seed and count give the same events everywhere. A load made in parts, each behind the one before and from the seed
  * that it left, has the same bytes as one made at once. With this table no event of it is refused by 9, 10 or 11; vongselik_events takes them as they are.
  * Refusals: 8; 23 if the buffer is shorter than three times the count. The buffer and *seed are then as they were. The state is only read. */
@@ -326,8 +341,8 @@ static inline uint8_t vongselik_make_events(const vongselik_state *state, uint32
 {
     uint8_t none = 0;
     return vongselik_parts_make_events(
-        state->processors, state->jobs, state->objects, state->processor_of, state->may_read, state->may_write, state->active, state->unlocked,
-        state->readers, state->writers, state->request, seed, count, size ? buffer : &none, size);
+        state->version, state->processors, state->jobs, state->objects, state->processor_of, state->may_read, state->may_write, state->active,
+        state->unlocked, state->readers, state->writers, state->certified, state->request, seed, count, size ? buffer : &none, size);
 }
 
 #ifdef __cplusplus

@@ -2,7 +2,7 @@
 #ifndef CHECKS_H
 #define CHECKS_H
 
-/* In a run of so many tables, each kind of page, ceiling and test load that is counted has to occur. */
+/* In a run of so many tables, each kind of page, ceiling, test load and answer that is counted has to occur. */
 enum { ENOUGH = 200 };
 
 /* Counts one compared call; says what differs, the first few times. */

@@ -1,6 +1,6 @@
 /* Compares the library with the model (model.c) on random tables, events, states (inputs.c), questions, state pages and test loads (compare_loads.c), lists
- * of events with single events too, and state pages with the questions. Prints how many calls agreed and how many did not.
- * Usage: compare [TABLES [EVENTS [SEED]]]: 1,000 tables, 120 events on each. Each event is one call; so is each table, part, state and question,
+ * of events with single events too, and state pages with the questions. Prints which answers came (occurred.c), how many calls agreed and how many did not.
+ * Usage: compare [TABLES [EVENTS [SEED]]]: 1,000 tables, 220 events on each. Each event is one call; so is each table, part, state and question,
  * each list of events, once for every place where it is cut, each state page, once for every length of the buffer, each line of it beside the questions,
  * each ceiling beside nobody's, each test load, once for every length of the buffer and for every place where it is split, each event of it that is sent,
  * and each name of the header. */
@@ -12,6 +12,7 @@
 #include "compare_loads.h"
 #include "inputs.h"
 #include "model.h"
+#include "occurred.h"
 #include "vongselik.h"
 
 /* ---- The header's names */
@@ -19,7 +20,8 @@
 /* Each kind, answer, reason and refusal in the order of its number, and the limits. */
 static void compare_names(void)
 {
-    static const int kinds[] = {0, VONGSELIK_START, VONGSELIK_READ_LOCK, VONGSELIK_WRITE_LOCK, VONGSELIK_UNLOCK, VONGSELIK_FINISH, VONGSELIK_ABANDON};
+    static const int kinds[] = {
+        0, VONGSELIK_START, VONGSELIK_READ_LOCK, VONGSELIK_WRITE_LOCK, VONGSELIK_UNLOCK, VONGSELIK_FINISH, VONGSELIK_ABANDON, VONGSELIK_CERTIFY};
     static const int answers[] = {0, VONGSELIK_GRANTED, VONGSELIK_WAITS, VONGSELIK_DONE, VONGSELIK_REFUSED};
     static const int reasons[] = {0, VONGSELIK_CONFLICT, VONGSELIK_CEILING, VONGSELIK_CAP};
     static const int refusals[] = {
@@ -27,12 +29,13 @@ static void compare_names(void)
         VONGSELIK_PROCESSOR_BYTE_TOO_LARGE, VONGSELIK_ENTRY_OUT_OF_RANGE, VONGSELIK_ENTRY_OUT_OF_ORDER, VONGSELIK_STATE_NOT_WELL_FORMED,
         VONGSELIK_UNKNOWN_KIND, VONGSELIK_RANK_OUT_OF_RANGE, VONGSELIK_OBJECT_OUT_OF_RANGE, VONGSELIK_ALREADY_ACTIVE, VONGSELIK_IDLE, VONGSELIK_WAITING,
         VONGSELIK_LOCK_AFTER_UNLOCK, VONGSELIK_NOT_DECLARED, VONGSELIK_ALREADY_HELD, VONGSELIK_NOT_HELD, VONGSELIK_NO_SUCH_PROCESSOR,
-        VONGSELIK_BUFFER_TOO_SHORT, VONGSELIK_UNLOCK_OF_WRITE_LOCK, VONGSELIK_BUFFER_TOO_SHORT_FOR_PAGE, VONGSELIK_BUFFER_TOO_SHORT_FOR_EVENTS};
+        VONGSELIK_BUFFER_TOO_SHORT, VONGSELIK_UNLOCK_OF_WRITE_LOCK, VONGSELIK_BUFFER_TOO_SHORT_FOR_PAGE, VONGSELIK_BUFFER_TOO_SHORT_FOR_EVENTS,
+        VONGSELIK_CERTIFY_WITHOUT_WRITE_LOCK, VONGSELIK_FINISH_WITHOUT_CERTIFY};
     int i;
-    for (i = 1; i <= 6; i++) check(kinds[i] == i, "a kind's number");
+    for (i = 1; i <= 7; i++) check(kinds[i] == i, "a kind's number");
     for (i = 1; i <= 4; i++) check(answers[i] == i, "an answer's number");
     for (i = 1; i <= 3; i++) check(reasons[i] == i, "a reason's number");
-    for (i = 0; i <= 23; i++) check(refusals[i] == i, "a refusal's number");
+    for (i = 0; i <= 25; i++) check(refusals[i] == i, "a refusal's number");
     check(VONGSELIK_MOST_JOBS == 64 && VONGSELIK_MOST_OBJECTS == 128 && VONGSELIK_MOST_PROCESSORS == 8, "a limit");
     check(VONGSELIK_LONGEST_TABLE == 10 + 64 + 3 * 8192 && VONGSELIK_LONGEST_PAGE == 64 * 21, "a limit");
 }
@@ -261,18 +264,25 @@ static void compare_event(vongselik_state *s, model *m)
                && a.refusal == b.refusal && model_same(m, s);
     if (a.answer == VONGSELIK_REFUSED && memcmp(&before, s, sizeof before)) same = 0;
     check(same, "event");
+    count_event(&before, e, b);
 }
 
 /* ---- States handed in */
 
-/* The state in the struct, handed in: the page, an event, the questions and the writer. */
+/* The state in the struct, handed in: the page, a few events, each by itself, and after the last the questions and the writer. */
 static void compare_handed_in(const vongselik_state *handed)
 {
     vongselik_state s = *handed;
     model m;
+    int i;
     model_from(&m, &s);
+    count_handed_in(&s, model_well_formed(&m));
     compare_page(&s, &m);
-    compare_event(&s, &m);
+    for (i = 0; i < 4; i++) {
+        s = *handed;
+        model_from(&m, &s);
+        compare_event(&s, &m);
+    }
     compare_questions(&s, &m, below(4) == 0);
     if (below(4) == 0) compare_writing(&s, &m, below(3) ? (size_t)LONGEST : (size_t)below(400));
 }
@@ -324,8 +334,8 @@ static void compare_cut(const list *l, size_t size, size_t room)
         answered = vongselik_events(&s, events, answers, room);
     else
         answered = vongselik_parts_events(
-            s.processors, s.jobs, s.objects, s.processor_of, s.may_read, s.may_write, &s.active, &s.unlocked, s.readers, s.writers, s.request, events, size,
-            answers, room);
+            s.version, s.processors, s.jobs, s.objects, s.processor_of, s.may_read, s.may_write, &s.active, &s.unlocked, s.readers, s.writers,
+            s.certified, s.request, events, size, answers, room);
     check(
         answered == count && !memcmp(answers, expected, sizeof answers) && !memcmp(&s, &l->states[count], sizeof s)
             && !memcmp(events, l->events, sizeof events),
@@ -409,7 +419,7 @@ static void compare_table(int events)
 
 int main(int argc, char **argv)
 {
-    int tables = argc > 1 ? atoi(argv[1]) : 1000, events = argc > 2 ? atoi(argv[2]) : 120, i;
+    int tables = argc > 1 ? atoi(argv[1]) : USUAL_TABLES, events = argc > 2 ? atoi(argv[2]) : USUAL_EVENTS, i;
     unsigned long start = argc > 3 ? strtoul(argv[3], NULL, 10) : 1;
     compare_names();
     compare_nobody();
@@ -421,5 +431,6 @@ int main(int argc, char **argv)
     check_nobody_occurred(tables);
     check_pages_occurred(tables);
     check_loads_occurred(tables);
+    check_answers_occurred(tables, events);
     return print_checks() ? 0 : 1;
 }

@@ -116,6 +116,7 @@ static vongselik_state idle(const vongselik_state *s)
     other.active = other.unlocked = 0;
     memset(other.readers, 0, sizeof other.readers);
     memset(other.writers, 0, sizeof other.writers);
+    memset(other.certified, 0, sizeof other.certified);
     memset(other.request, 0, sizeof other.request);
     return other;
 }

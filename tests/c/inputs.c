@@ -34,20 +34,22 @@ static uint64_t any_word(void)
 size_t make_table(uint8_t *b)
 {
     static const int most_objects[] = {3, 8, 20, 128};
-    int size = below(4), r, o, density = 5 + below(90);
+    int size = below(4), r, o, density = 5 + below(90), only_read;
     size_t n, count = 0;
-    memcpy(b, "JOB\0\1", 5);
+    memcpy(b, "JOB\0", 4);
+    b[4] = (uint8_t)(1 + below(2));
     b[5] = (uint8_t)(1 + below(8));
     b[6] = (uint8_t)(size == 3 && !below(4) ? 64 : 1 + below(size == 3 ? 64 : 10));
     b[7] = (uint8_t)(1 + below(most_objects[size]));
     for (r = 1; r <= b[6]; r++) b[7 + r] = (uint8_t)below(b[5]);
+    only_read = below(2) ? 0 : below(b[6]); /* so many of the most urgent jobs */
     n = (size_t)10 + b[6];
     for (r = 1; r <= b[6]; r++)
         for (o = 1; o <= b[7]; o++)
             if (below(100) < density) {
                 b[n++] = (uint8_t)r;
                 b[n++] = (uint8_t)o;
-                b[n++] = (uint8_t)(1 + below(3));
+                b[n++] = (uint8_t)(r <= only_read ? 1 : 1 + below(3));
                 count++;
             }
     b[8 + b[6]] = (uint8_t)(count / 256);
@@ -70,25 +72,82 @@ size_t spoil_table(uint8_t *b, size_t n)
 
 /* ---- Events */
 
-/* An object on which the rank, 1 to 64, holds a lock; object 1 if it holds none. */
-static int held_object(const vongselik_state *s, int rank)
+/* Some object in whose set the rank, 1 to 64, is; 0 if there is none. */
+static int object_in(const uint64_t *sets, int rank)
 {
     int i, first = below(128);
     for (i = first; i < first + 128; i++)
-        if ((s->readers[i % 128] | s->writers[i % 128]) >> (rank - 1) & 1) return i % 128 + 1;
-    return 1;
+        if (sets[i % 128] >> (rank - 1) & 1) return i % 128 + 1;
+    return 0;
+}
+
+/* The ranks that hold a write lock on the object at index o which is not certified. */
+static uint64_t uncertified(const vongselik_state *s, int o)
+{
+    return s->certified[o / 64] >> o % 64 & 1 ? 0 : s->writers[o];
+}
+
+/* Some object on which the rank holds a write lock that is not certified; 0 if there is none. */
+static int uncertified_object(const vongselik_state *s, int rank)
+{
+    uint64_t sets[128];
+    int o;
+    for (o = 0; o < 128; o++) sets[o] = uncertified(s, o);
+    return object_in(sets, rank);
+}
+
+/* Some object that the rank may read and on which a write lock is not certified; 0 if there is none. */
+static int working_object(const vongselik_state *s, int rank)
+{
+    uint64_t sets[128];
+    int o;
+    for (o = 0; o < 128; o++) sets[o] = uncertified(s, o) ? s->may_read[o] : 0;
+    return object_in(sets, rank);
+}
+
+/* An object for which the rank may send an event of this kind, more often than not; 0 if there is none. */
+static int likely_object(const vongselik_state *s, int rank, int kind)
+{
+    int working = kind == VONGSELIK_READ_LOCK && below(2) ? working_object(s, rank) : 0;
+    if (working) return working;
+    if (kind == VONGSELIK_READ_LOCK) return object_in(s->may_read, rank);
+    if (kind == VONGSELIK_WRITE_LOCK) return object_in(s->may_write, rank);
+    if (kind == VONGSELIK_CERTIFY && below(4)) return uncertified_object(s, rank);
+    return object_in(below(2) ? s->readers : s->writers, rank);
+}
+
+/* A kind that the rank may send, more often than not, or the given one. On version 2 write locks are often certified, in the place of a finish most often. */
+static int likely_kind(const vongselik_state *s, int rank, int kind)
+{
+    int waits = s->request[rank - 1] != 0, to_certify = s->version == 2 && !waits && uncertified_object(s, rank);
+    if (waits && below(2)) return VONGSELIK_FINISH + below(2);
+    if (below(3)) {
+        if (!(s->active >> (rank - 1) & 1)) return VONGSELIK_START;
+        if (to_certify && below(3) == 0) return VONGSELIK_CERTIFY;
+        if (below(3)) return VONGSELIK_READ_LOCK + below(2);
+    }
+    return to_certify && kind == VONGSELIK_FINISH && below(3) ? VONGSELIK_CERTIFY : kind;
+}
+
+/* A rank that does not wait, more often than not. */
+static int likely_rank(const vongselik_state *s)
+{
+    int rank = about(s->jobs ? s->jobs : 1), tries;
+    for (tries = 0; tries < 2 && rank >= 1 && rank <= 64 && s->request[rank - 1]; tries++) rank = about(s->jobs ? s->jobs : 1);
+    return rank;
 }
 
 event any_event(const vongselik_state *s)
 {
-    int rank = about(s->jobs ? s->jobs : 1), kind = below(20) ? 1 + below(6) : below(256), object, known = rank >= 1 && rank <= 64;
+    int rank = likely_rank(s), kind = below(20) ? 1 + below(s->version == 2 || !below(8) ? 7 : 6) : below(256), object;
+    int known = rank >= 1 && rank <= 64;
     event e;
-    if (below(3) && known) {
-        if (!(s->active >> (rank - 1) & 1)) kind = VONGSELIK_START;
-        else if (below(3)) kind = VONGSELIK_READ_LOCK + below(2);
+    if (known) kind = likely_kind(s, rank, kind);
+    object = below(30) ? 0 : below(256);
+    if ((kind >= 2 && kind <= 4) || kind == VONGSELIK_CERTIFY) {
+        object = known && below(6) ? likely_object(s, rank, kind) : 0;
+        if (!object) object = about(s->objects ? s->objects : 1);
     }
-    object = kind >= 2 && kind <= 4 ? about(s->objects ? s->objects : 1) : below(30) ? 0 : below(256);
-    if (kind == VONGSELIK_UNLOCK && known && below(4)) object = held_object(s, rank);
     e.kind = (uint8_t)kind;
     e.rank = (uint8_t)rank;
     e.object = (uint8_t)object;
@@ -97,30 +156,69 @@ event any_event(const vongselik_state *s)
 
 /* ---- States */
 
+/* Locks of these jobs on the object at index o: of a writer or of readers; on version 2 of both, or of a writer that has certified it. */
+static void strew_locks(vongselik_state *s, int o, uint64_t holders)
+{
+    uint64_t writer = s->may_write[o] & holders, certified = 0;
+    if (writer & (writer - 1)) writer &= (uint64_t)1 << below(s->jobs);
+    s->writers[o] = below(3) ? 0 : writer;
+    if (s->version == 2 && s->writers[o]) certified = (uint64_t)below(2);
+    s->certified[o / 64] |= certified << o % 64;
+    if (certified || (s->version == 1 && s->writers[o]) || below(2)) return;
+    s->readers[o] = s->may_read[o] & holders & ~s->writers[o] & any_word();
+    if (below(2)) s->readers[o] &= any_word() & any_word();
+}
+
+/* A request of the job at index r, an active one that has not unlocked, or none; on version 2 often to certify. */
+static void strew_request(vongselik_state *s, int r)
+{
+    int object = below(s->objects), mode = 1 + below(2), to_certify = s->version == 2 ? uncertified_object(s, r + 1) : 0;
+    uint64_t right = mode == 1 ? s->may_read[object] & ~s->readers[object] : s->may_write[object];
+    if (to_certify && below(2)) s->request[r] = (uint16_t)(3 * 256 + to_certify);
+    else if (below(2) && (right & ~s->writers[object]) >> r & 1) s->request[r] = (uint16_t)(mode * 256 + object + 1);
+}
+
 void strew(vongselik_state *s)
 {
-    int o, r;
-    uint64_t all = s->jobs == 64 ? ~(uint64_t)0 : ((uint64_t)1 << s->jobs) - 1;
+    int o, r, spaces = below(3) ? 1 : 1 + below(s->objects); /* how far apart the objects are at most that may be locked */
+    uint64_t all = s->jobs == 64 ? ~(uint64_t)0 : ((uint64_t)1 << s->jobs) - 1, holders;
     s->active = any_word() & all;
+    holders = below(4) ? s->active : s->active & (uint64_t)1 << below(s->jobs);
     s->unlocked = below(2) ? 0 : any_word() & any_word() & s->active;
+    memset(s->readers, 0, sizeof s->readers);
+    memset(s->writers, 0, sizeof s->writers);
+    memset(s->certified, 0, sizeof s->certified);
     memset(s->request, 0, sizeof s->request);
-    for (o = 0; o < s->objects; o++) {
-        uint64_t writer = s->may_write[o] & s->active & ((uint64_t)1 << below(64));
-        s->writers[o] = below(3) ? 0 : writer;
-        s->readers[o] = s->writers[o] || below(2) ? 0 : s->may_read[o] & s->active & any_word();
-    }
-    for (r = 0; r < s->jobs; r++) {
-        int object = below(s->objects), mode = 1 + below(2);
-        uint64_t right = mode == 1 ? s->may_read[object] & ~s->readers[object] : s->may_write[object];
-        if (below(2) && (right & s->active & ~s->unlocked & ~s->writers[object]) >> r & 1) s->request[r] = (uint16_t)(mode * 256 + object + 1);
-    }
+    for (o = below(spaces); o < s->objects; o += 1 + below(spaces)) strew_locks(s, o, holders);
+    for (r = 0; r < s->jobs; r++)
+        if ((s->active & ~s->unlocked) >> r & 1) strew_request(s, r);
+}
+
+/* The index of an object: of any, of one in the table, or of one with a write lock if there is one in it. */
+static int index_of_object(const vongselik_state *s)
+{
+    int in_table = s->objects && s->objects <= 128 ? s->objects : 128, first = below(below(4) ? in_table : 128), i;
+    if (below(2))
+        for (i = first; i < first + in_table; i++)
+            if (s->writers[i % in_table]) return i % in_table;
+    return first;
+}
+
+/* The index of a job: of any, of one in the table, or of one in the set if there is one in it. */
+static int index_of_job(const vongselik_state *s, uint64_t set)
+{
+    int first = below(below(4) && s->jobs && s->jobs <= 64 ? s->jobs : 64), i;
+    if (below(2))
+        for (i = first; i < first + 64; i++)
+            if (set >> i % 64 & 1) return i % 64;
+    return first;
 }
 
 void mutate(vongselik_state *s)
 {
-    int o = below(below(4) && s->objects && s->objects <= 128 ? s->objects : 128), r = below(below(4) && s->jobs && s->jobs <= 64 ? s->jobs : 64);
+    int o = index_of_object(s), r = index_of_job(s, below(3) ? s->active & (s->may_read[o] | s->may_write[o]) : s->writers[o]);
     uint64_t bit = (uint64_t)1 << r;
-    switch (below(12)) {
+    switch (below(15)) {
     case 0: s->processors = (uint8_t)(below(2) ? below(12) : below(256)); break;
     case 1: s->jobs = (uint8_t)(below(2) ? s->jobs + 1 - 2 * below(2) : below(256)); break;
     case 2: s->objects = (uint8_t)(below(2) ? s->objects + 1 - 2 * below(2) : below(256)); break;
@@ -131,7 +229,10 @@ void mutate(vongselik_state *s)
     case 7: s->unlocked ^= bit; break;
     case 8: s->readers[o] ^= bit; break;
     case 9: s->writers[o] ^= bit; break;
-    case 10: s->request[r] = (uint16_t)(below(4) * 256 + below(140)); break;
+    case 10: s->request[r] = (uint16_t)(below(5) * 256 + (below(2) ? o + 1 : below(140))); break;
+    case 11: s->version = (uint8_t)(below(3) ? 3 - s->version : below(256)); break;
+    case 12: s->version = (uint8_t)below(4); break;
+    case 13: s->certified[o / 64] ^= (uint64_t)1 << o % 64; break;
     default: s->request[r] = 0; break;
     }
 }

@@ -23,13 +23,14 @@ int below(int n);
 /* A number from 1 to n, or now and then one that is out of range. */
 int about(int n);
 
-/* Random table bytes with something behind them; answers the length of all. */
+/* Random table bytes of either version with something behind them; answers the length of all. */
 size_t make_table(uint8_t *bytes);
 
 /* Changes some bytes, or cuts the bytes short; answers the new length. */
 size_t spoil_table(uint8_t *bytes, size_t size);
 
-/* A random event; more often than not of a kind that the job may send, and an unlock of an object that it has locked. */
+/* A random event; more often than not of a kind that the job may send, an unlock of an object that it has locked, and a certify of one that it has
+ * write-locked. */
 event any_event(const vongselik_state *s);
 
 /* Locks and requests strewn over the table, by and large well formed, though no events lead there. */

@@ -33,6 +33,7 @@ static void declare(vongselik_state *s, int its_jobs, int its_objects)
 {
     int o;
     memset(s, 0, sizeof *s);
+    s->version = 1;
     s->processors = 1;
     s->jobs = (uint8_t)its_jobs;
     s->objects = (uint8_t)its_objects;

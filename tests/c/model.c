@@ -1,8 +1,11 @@
-/* The rule of document 01, with CR 1, CR 2, CR 4 and CR 5 of document 02, written a second time: see model.h. */
+/* The rule of document 01, with CR 1, CR 2, CR 4, CR 5 and CR 6 of document 02, written a second time: see model.h. */
 #include "model.h"
 
 #include <stdio.h>
 #include <string.h>
+
+/* The modes of a lock and of a request. */
+enum { READ = 1, WRITE = 2, CERTIFY = 3 };
 
 /* ---- A state spread out */
 
@@ -22,6 +25,7 @@ void model_from(model *m, const vongselik_state *s)
 {
     int r, o;
     memset(m, 0, sizeof *m);
+    m->version = s->version;
     m->processors = s->processors;
     m->jobs = s->jobs;
     m->objects = s->objects;
@@ -37,6 +41,7 @@ void model_from(model *m, const vongselik_state *s)
         if (s->may_write[o - 1]) spread(m->may_write[o], s->may_write[o - 1]);
         if (s->readers[o - 1]) spread(m->reads[o], s->readers[o - 1]);
         if (s->writers[o - 1]) spread(m->writes[o], s->writers[o - 1]);
+        m->certified[o] = (char)in_set(s->certified[(o - 1) / 64], (o - 1) % 64 + 1);
     }
 }
 
@@ -54,15 +59,26 @@ static int waits(const model *m, int rank)
     return m->wants[rank] || m->wanted_object[rank];
 }
 
+/* Whether the right is declared: to certify takes the right to write. */
 static int may(const model *m, int mode, int rank, int object)
 {
-    return mode == 1 ? m->may_read[object][rank] : m->may_write[object][rank];
+    return mode == READ ? m->may_read[object][rank] : m->may_write[object][rank];
 }
 
-/* Refusal 17: that lock or the write lock is held already. */
+/* Refusal 17: that lock or the write lock, certified or not, is held already; to certify: the job has certified the object already. */
 static int held_already(const model *m, int mode, int rank, int object)
 {
-    return m->writes[object][rank] || (mode == 1 && m->reads[object][rank]);
+    if (mode == CERTIFY) return m->writes[object][rank] && m->certified[object];
+    return m->writes[object][rank] || (mode == READ && m->reads[object][rank]);
+}
+
+/* Whether the job has a write lock that it has not certified. */
+static int holds_uncertified(const model *m, int rank)
+{
+    int o;
+    for (o = 1; o <= 128; o++)
+        if (m->writes[o][rank] && !m->certified[o]) return 1;
+    return 0;
 }
 
 /* The ceiling where nobody is declared: one past the last rank. */
@@ -93,27 +109,38 @@ static int job_fits(const model *m, int r)
     if (m->processor[r] >= m->processors) return 0;
     if (!m->active[r] && (m->unlocked[r] || waits(m, r))) return 0;
     if (!waits(m, r)) return 1;
-    if (m->unlocked[r] || m->wants[r] < 1 || m->wants[r] > 2) return 0;
+    if (m->unlocked[r] || m->wants[r] < READ || m->wants[r] > (m->version == 1 ? WRITE : CERTIFY)) return 0;
     if (m->wanted_object[r] < 1 || m->wanted_object[r] > m->objects) return 0;
+    if (m->wants[r] == CERTIFY && !m->writes[m->wanted_object[r]][r]) return 0;
     return may(m, m->wants[r], r, m->wanted_object[r]) && !held_already(m, m->wants[r], r, m->wanted_object[r]);
+}
+
+/* Whether so many read locks and write locks may stand on one object, the write lock certified or not. */
+static int locks_fit(int version, int read_locks, int write_locks, int certified)
+{
+    if (version == 1) return !certified && (write_locks == 0 || (write_locks == 1 && read_locks == 0));
+    if (certified) return write_locks == 1 && read_locks == 0;
+    return write_locks <= 1;
 }
 
 static int object_fits(const model *m, int o)
 {
-    int r, locks = 0, write_locks = 0;
+    int r, read_locks = 0, write_locks = 0;
     for (r = 1; r <= 64; r++) {
         if ((m->may_read[o][r] || m->may_write[o][r]) && (o > m->objects || r > m->jobs)) return 0;
         if (m->reads[o][r] && !(m->active[r] && m->may_read[o][r])) return 0;
         if (m->writes[o][r] && !(m->active[r] && m->may_write[o][r])) return 0;
-        locks += m->reads[o][r] + m->writes[o][r];
+        if (m->reads[o][r] && m->writes[o][r]) return 0;
+        read_locks += m->reads[o][r];
         write_locks += m->writes[o][r];
     }
-    return !write_locks || locks == 1;
+    return locks_fit(m->version, read_locks, write_locks, m->certified[o]);
 }
 
 int model_well_formed(const model *m)
 {
     int i;
+    if (m->version != 1 && m->version != 2) return 0;
     if (m->processors < 1 || m->processors > 8 || m->jobs < 1 || m->jobs > 64 || m->objects < 1 || m->objects > 128) return 0;
     for (i = 1; i <= 64; i++)
         if (!job_fits(m, i)) return 0;
@@ -124,26 +151,38 @@ int model_well_formed(const model *m)
 
 /* ---- Granting, naming, waking */
 
+/* A lock that is held: its mode, what it weighs, by whom and on what. */
 typedef struct {
-    int weight, holder, object, write;
+    int weight, holder, object, mode;
 } lock;
+
+/* The mode of the lock that the job has on the object, 0 if it has none. */
+static int held_mode(const model *m, int rank, int object)
+{
+    if (m->writes[object][rank]) return m->certified[object] ? CERTIFY : WRITE;
+    return m->reads[object][rank] ? READ : 0;
+}
+
+/* What a lock of this mode weighs. */
+static int weight_of(const model *m, int mode, int holder, int object)
+{
+    int ceiling = write_ceiling(m, object);
+    if (mode == READ) return ceiling < holder ? ceiling : holder;
+    return mode == WRITE && m->version == 2 ? ceiling : absolute_ceiling(m, object);
+}
 
 /* Of the locks of other jobs the one that a waiting job names: the most urgent weight, then the lowest rank, then the lowest object. */
 static lock named(const model *m, int rank)
 {
     lock best = {1000, 0, 0, 0};
     int h, o;
-    for (h = 1; h <= 64; h++)
-        for (o = 1; o <= 128; o++) {
-            int weight;
-            if (h == rank || !(m->reads[o][h] || m->writes[o][h])) continue;
-            weight = m->writes[o][h] ? absolute_ceiling(m, o) : write_ceiling(m, o) < h ? write_ceiling(m, o) : h;
-            if (weight < best.weight) {
-                best.weight = weight;
-                best.holder = h;
-                best.object = o;
-                best.write = m->writes[o][h];
-            }
+    for (h = 1; h <= m->jobs; h++)
+        for (o = 1; o <= m->objects; o++) {
+            lock l = {0, h, o, 0};
+            l.mode = held_mode(m, h, o);
+            if (h == rank || !l.mode) continue;
+            l.weight = weight_of(m, l.mode, h, o);
+            if (l.weight < best.weight) best = l;
         }
     return best;
 }
@@ -153,21 +192,31 @@ static int passes(const model *m, int rank)
     return rank < named(m, rank).weight;
 }
 
+/* Whether a request meets a lock on its object that it does not go together with: on version 2 by table 1 of source document 004. */
+static int conflict(int version, int requested, int held)
+{
+    static const char together[4][4] = {{0, 0, 0, 0}, {0, 1, 1, 0}, {0, 1, 0, 0}, {0, 0, 0, 0}}; /* by the requested mode, then the held one */
+    if (version == 1) return requested == WRITE || held == WRITE;
+    return !together[requested][held];
+}
+
 static int reason_of(const model *m, int mode, int object, lock l)
 {
-    if (l.object == object && (l.write || mode == 2)) return VONGSELIK_CONFLICT;
-    if (!l.write && l.holder < write_ceiling(m, l.object)) return VONGSELIK_CAP;
+    if (l.object == object && conflict(m->version, mode, l.mode)) return VONGSELIK_CONFLICT;
+    if (l.mode == READ && l.holder < write_ceiling(m, l.object)) return VONGSELIK_CAP;
     return VONGSELIK_CEILING;
 }
 
 static void give(model *m, int mode, int rank, int object)
 {
     m->wants[rank] = m->wanted_object[rank] = 0;
-    if (mode == 1) {
+    if (mode == READ) {
         m->reads[object][rank] = 1;
-    } else {
+    } else if (mode == WRITE) {
         m->reads[object][rank] = 0;
         m->writes[object][rank] = 1;
+    } else {
+        m->certified[object] = 1;
     }
 }
 
@@ -184,24 +233,27 @@ static int wake(model *m)
 
 /* ---- Events */
 
-static int is_lock_kind(int kind)
+/* The mode of the lock that an event of this kind asks for, 0 if it asks for none. */
+static int asked_mode(int kind)
 {
-    return kind == VONGSELIK_READ_LOCK || kind == VONGSELIK_WRITE_LOCK;
+    return kind == VONGSELIK_READ_LOCK ? READ : kind == VONGSELIK_WRITE_LOCK ? WRITE : kind == VONGSELIK_CERTIFY ? CERTIFY : 0;
 }
 
 static int event_refusal(const model *m, int kind, int rank, int object)
 {
-    int on_object = is_lock_kind(kind) || kind == VONGSELIK_UNLOCK;
+    int mode = asked_mode(kind), on_object = mode || kind == VONGSELIK_UNLOCK;
     if (!model_well_formed(m)) return 8;
-    if (kind < 1 || kind > 6) return 9;
+    if (kind < 1 || kind > 7 || (kind == VONGSELIK_CERTIFY && m->version == 1)) return 9;
     if (rank < 1 || rank > m->jobs) return 10;
     if (on_object ? object < 1 || object > m->objects : object != 0) return 11;
     if (kind == VONGSELIK_START && m->active[rank]) return 12;
     if (kind != VONGSELIK_START && !m->active[rank]) return 13;
-    if (kind >= 2 && kind <= 5 && waits(m, rank)) return 14;
-    if (is_lock_kind(kind) && m->unlocked[rank]) return 15;
-    if (is_lock_kind(kind) && !may(m, kind - 1, rank, object)) return 16;
-    if (is_lock_kind(kind) && held_already(m, kind - 1, rank, object)) return 17;
+    if (kind != VONGSELIK_START && kind != VONGSELIK_ABANDON && waits(m, rank)) return 14;
+    if (kind == VONGSELIK_FINISH && m->version == 2 && holds_uncertified(m, rank)) return 25;
+    if (mode && m->unlocked[rank]) return 15;
+    if (mode && !may(m, mode, rank, object)) return 16;
+    if (mode && held_already(m, mode, rank, object)) return 17;
+    if (mode == CERTIFY && !m->writes[object][rank]) return 24;
     if (kind == VONGSELIK_UNLOCK && !m->reads[object][rank] && !m->writes[object][rank]) return 18;
     if (kind == VONGSELIK_UNLOCK && m->writes[object][rank]) return 21;
     return 0;
@@ -229,7 +281,10 @@ static void end_run(model *m, int rank)
     int o;
     m->active[rank] = m->unlocked[rank] = 0;
     m->wants[rank] = m->wanted_object[rank] = 0;
-    for (o = 1; o <= 128; o++) m->reads[o][rank] = m->writes[o][rank] = 0;
+    for (o = 1; o <= 128; o++) {
+        if (m->writes[o][rank]) m->certified[o] = 0;
+        m->reads[o][rank] = m->writes[o][rank] = 0;
+    }
 }
 
 vongselik_answer model_event(model *m, int kind, int rank, int object)
@@ -241,7 +296,7 @@ vongselik_answer model_event(model *m, int kind, int rank, int object)
         a.refusal = (uint8_t)refusal;
         return a;
     }
-    if (is_lock_kind(kind)) return request(m, kind - 1, rank, object);
+    if (asked_mode(kind)) return request(m, asked_mode(kind), rank, object);
     if (kind == VONGSELIK_START) {
         m->active[rank] = 1;
         return a;
@@ -411,7 +466,7 @@ static int layout_refusal(const uint8_t *b, size_t size)
     size_t count;
     if (size < 8) return 1;
     if (b[0] != 'J' || b[1] != 'O' || b[2] != 'B') return 2;
-    if (b[3] != 0 || b[4] != 1) return 3;
+    if (b[3] != 0 || (b[4] != 1 && b[4] != 2)) return 3;
     if (b[5] < 1 || b[5] > 8 || b[6] < 1 || b[6] > 64 || b[7] < 1 || b[7] > 128) return 4;
     if (size < (size_t)10 + b[6]) return 1;
     count = (size_t)b[8 + b[6]] * 256 + b[9 + b[6]];
@@ -443,6 +498,7 @@ int model_read_table(model *m, const uint8_t *b, size_t size, size_t *used)
     int r, refusal = table_refusal(b, size);
     if (refusal) return refusal;
     memset(m, 0, sizeof *m);
+    m->version = b[4];
     m->processors = b[5];
     m->jobs = b[6];
     m->objects = b[7];
@@ -476,10 +532,11 @@ int model_job_entries(const uint8_t *b, size_t size, int rank, size_t *start, si
 
 int model_write_table(const model *m, uint8_t *buffer, size_t size, size_t *length)
 {
-    uint8_t b[VONGSELIK_LONGEST_TABLE] = {'J', 'O', 'B', 0, 1};
+    uint8_t b[VONGSELIK_LONGEST_TABLE] = {'J', 'O', 'B', 0};
     size_t n = (size_t)10 + m->jobs, count;
     int r, o;
     if (!model_well_formed(m)) return 8;
+    b[4] = (uint8_t)m->version;
     b[5] = (uint8_t)m->processors;
     b[6] = (uint8_t)m->jobs;
     b[7] = (uint8_t)m->objects;

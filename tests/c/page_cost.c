@@ -33,6 +33,7 @@ static void declare(vongselik_state *s, int stopping)
 {
     int r, o;
     memset(s, 0, sizeof *s);
+    s->version = 1;
     s->processors = PROCESSORS;
     s->jobs = JOBS;
     s->objects = OBJECTS;

@@ -19,6 +19,7 @@ static void declare(vongselik_state *s, layout l)
 {
     int o;
     memset(s, 0, sizeof *s);
+    s->version = 1;
     s->processors = 1;
     s->jobs = HOLDER;
     s->objects = (uint8_t)l.objects;

@@ -100,8 +100,7 @@ pub fn drop_marks(marks: &mut ObjectMarks, writers: Sets, rank: u8)
 {
     let low = kept_in(writers, marks[0], 0, rank);
     let high = kept_in(writers, marks[1], 64, rank);
-    marks[0] = low;
-    marks[1] = high;
+    *marks = [low, high];
 }
 
 // The mode of a request.

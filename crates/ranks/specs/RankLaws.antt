@@ -13,7 +13,7 @@ use lib.Pow.{pow-lt}
 use lib.Dec.{eqb}
 use lib.Bits.{bitAnd, bitOr, bitXor, differ, and-le-l, or-lt, xor-lt, xor-self}
 use lib.Count.{ones, trailingZeros, trailing-le, trailing-of-zero}
-use borrow.Author.Tests.{eqb-true, eq-eqb, ne-eqb, leb-true, le-leb}
+use borrow.Author.Tests.{eqb-true, eqb-false, eq-eqb, ne-eqb, leb-true, le-leb}
 use Rattle.basics.specs.Choice.{clash}
 use Rattle.ranks.specs.Ranks.{bit, member, with, without, first, subset, disjoint, atMostOne}
 use Rattle.ranks.specs.Bits.{bit-lt, zero-bit, high-bit, and-bit, or-bit, xor-bit, single-same, single-other, same-bits}
@@ -147,6 +147,12 @@ first-empty k = ap (λ (n : ℕ). n + 1) (trailing-of-zero k)
 pub first-some : (k set : ℕ) → 0 < set → set < 2 ^ k → first k set ≤ k
 unfolding first
 first-some k set p h = omega (arith, trailing-lt k set p h)
+
+-- the first member of a set that has one
+pub first-there : (k set : ℕ) → eqb set 0 ≡ false → set < 2 ^ k → (1 ≤ first k set) × (first k set ≤ k) × (member set (first k set) ≡ true)
+first-there k set e h =
+    let l = first-some k set (omega (arith, eqb-false set 0 e)) h in
+    (first-pos k set, l, first-member k set l)
 
 pub first-none : (k set : ℕ) → set < 2 ^ k → first k set ≡ k + 1 → set ≡ 0
 first-none k set h e = go (eq-zero-or-pos set)

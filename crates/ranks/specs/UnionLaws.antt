@@ -2,18 +2,18 @@
 -- Assumes nothing.
 use mathlib.Core.Path.{_≡_, refl, sym, ap, ap₂, _∙_}
 use mathlib.Core.Logic.{_⊎_, inl, inr, ⊎-elim}
-use mathlib.Core.Bool.{Bool, true, false, _&&_, _||_}
+use mathlib.Core.Bool.{Bool, true, false, not, _&&_, _||_}
 use Prim.Native.Nat.{ℕ, zero, suc, _+_, _-_, _*_, _/_, _%_, _^_, _≤_, _<_, min}
 use native.Mathlib.Nat.{eq-zero-or-pos, pow-suc, le-antisymm, mod-eq-of-lt, add-zero, add-suc}
 use native.Mathlib.Numerals.{add-one}
 use native.Mathlib.Omega.{arith}
-use native.Mathlib.Decide.{decLe}
+use native.Mathlib.Decide.{ℕ-discrete, decLe}
 use lib.Dec.{eqb, ltb}
 use lib.Pow.{pow-pos}
 use lib.Bits.{bitAnd, bitXor, and-step, and-self, and-mask, mask-lt, and-le-l, and-le-r, or-add-and, xor-add-and, xor-self, or-lt, or-comm, or-zero-r}
 use lib.Count.{ones-step, ones-le, trailingZeros}
 use borrow.Author.Tests.{eqb-true, eq-eqb, leb-true, le-leb, ltb-true, lt-ltb}
-use Rattle.basics.specs.Choice.{clash, same-test, and-true, and-left, and-right, or-right}
+use Rattle.basics.specs.Choice.{clash, same-test, and-true, and-left, and-right, or-right, neither}
 use Rattle.basics.specs.Loops.{every, sum, oneIf, sum-same, sum-first}
 use Rattle.ranks.specs.Ranks.{bit, member, first, union, minus, butFirst, subset, size, atMostOne, upTo, unions}
 use Rattle.ranks.specs.Bits.{bit-lt, bit-zero, bit-suc, or-bit, same-bits, trailing-set, trailing-lt, ones-pos}
@@ -147,6 +147,23 @@ unfolding unions
 unions-both zero f g = refl
 unions-both (suc n) f g =
     union-pairs (unions n f) (f (suc n)) (unions n g) (g (suc n)) ∙ ap (λ (s : ℕ). union s (union (f (suc n)) (g (suc n)))) (unions-both n f g)
+
+neither-left : (p q : Bool) → p || q ≡ false → p ≡ false
+neither-left p q e = neither p q (ap not e) .0
+
+neither-right : (p q : Bool) → p || q ≡ false → q ≡ false
+neither-right p q e = neither p q (ap not e) .1
+
+-- who is not in all of them together is in none of them
+pub member-unions : (n : ℕ) (f : ℕ → ℕ) (r i : ℕ) → member (unions n f) r ≡ false → 1 ≤ i → i ≤ n → member (f i) r ≡ false
+unfolding unions
+member-unions zero f r i e a b = absurd (omega arith)
+member-unions (suc n) f r i e a b =
+    let both = sym (member-union (unions n f) (f (suc n)) r) ∙ e in
+    elim (ℕ-discrete i (suc n)) [
+      | yes q ↦ ap (λ (k : ℕ). member (f k) r) q ∙ neither-right (member (unions n f) r) (member (f (suc n)) r) both
+      | no d ↦ member-unions n f r i (neither-left (member (unions n f) r) (member (f (suc n)) r) both) a (omega arith)
+    ]
 
 pub unions-empty : (n : ℕ) (f : ℕ → ℕ) → eqb (unions n f) 0 ≡ every n (λ i. eqb (f i) 0)
 unfolding unions every

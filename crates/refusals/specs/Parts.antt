@@ -5,15 +5,16 @@ use mathlib.Core.Path.{_≡_, refl, sym, subst, ap, _∙_}
 use mathlib.Core.Logic.{_≢_}
 use mathlib.Core.List.{List}
 use mathlib.Core.Bool.{Bool, true, false, not, _&&_, _||_}
-use Prim.Native.Nat.{ℕ, _-_, _≤_}
+use Prim.Native.Nat.{ℕ, _+_, _-_, _≤_, _<_}
 use native.Mathlib.Omega.{arith}
 use native.Mathlib.Decide.{ℕ-discrete}
 use lib.Dec.{eqb}
-use borrow.Author.Tests.{eq-eqb, ne-eqb}
-use Rattle.basics.specs.Choice.{_if_else_, or-right, inside-between}
+use borrow.Author.Tests.{eqb-true, eqb-false, eq-eqb, ne-eqb}
+use Rattle.basics.specs.Choice.{_if_else_, clash, or-right, inside-between}
 use Rattle.basics.specs.Arrays.{at}
-use Rattle.basics.specs.Loops.{every, every-true, every-same}
-use Rattle.ranks.specs.Ranks.{member}
+use Rattle.basics.specs.Loops.{every, every-at, every-true, every-same}
+use Rattle.ranks.specs.Ranks.{member, unions}
+use Rattle.ranks.specs.UnionLaws.{member-unions}
 use Rattle.state.specs.declared.State.{State}
 use Rattle.state.specs.State.{read, write, certify, ofMode, isRank, isObject, declared, holders, holds, marked, isCertified, isActive, isWaiting}
 use Rattle.refusals.specs.Refusals.{modeOf, allCertified, eventRefusal}
@@ -32,7 +33,7 @@ pub request-refusal : (s : State) (k r o : ℕ) → 2 ≤ k → k ≤ 3
     11 if not (isObject s o) else
     13 if not (isActive s r) else
     14 if isWaiting s r else
-    rightRefusal (modeOf k) r (s .unlocked) (declared s read o) (declared s write o) (holders s read o) (holders s write o))
+    rightRefusal (k - 1) r (s .unlocked) (declared s read o) (declared s write o) (holders s read o) (holders s write o))
 unfolding eventRefusal
 request-refusal s k r o low high =
     simp (
@@ -78,23 +79,79 @@ certify-refusal s r o = twice-not (eqb (s .counts .version) 1)
     twice-not true = refl
     twice-not false = refl
 
+-- behind 9, 10 and 11
+pub certify-behind : (s : State) (r o : ℕ) → eqb (s .counts .version) 1 ≡ false → isRank s r ≡ true → isObject s o ≡ true
+    → eventRefusal s 7 r o
+    ≡ (13 if not (isActive s r) else 14 if isWaiting s r else certifyRefusal r (s .unlocked) (declared s write o) (holders s write o) (isCertified s o))
+certify-behind s r o version rank object = certify-refusal s r o ∙ behind (eqb (s .counts .version) 1) (isRank s r) (isObject s o) _ version rank object
+  where
+    behind : (a b c : Bool) (rest : ℕ) → a ≡ false → b ≡ true → c ≡ true → (9 if a else 10 if not b else 11 if not c else rest) ≡ rest
+    behind a b c rest p q w = simp (p, q, w)
+
 -- object o is certified, if rank r writes it
 abbrev pub writtenWell : List ℕ → List ℕ → ℕ → ℕ → Bool
 writtenWell writers certified r o = not (member (at writers o) r) || marked certified o
 
+-- of the objects behind the first i up to the last one is not certified
+pub one-uncertified : (writers certified : List ℕ) (r i last n : ℕ) → last ≤ n
+    → every (last - i) (λ k. writtenWell writers certified r (i + k)) ≡ false → every n (writtenWell writers certified r) ≡ false
+one-uncertified writers certified r i last n h e = go (every n (writtenWell writers certified r)) refl
+  where
+    go : (b : Bool) → every n (writtenWell writers certified r) ≡ b → b ≡ false
+    go false q = refl
+    go true q =
+        absurd (clash (every-true (last - i) (λ k. writtenWell writers certified r (i + k))
+        (λ k a b. every-at n (writtenWell writers certified r) (i + k) q (omega arith) (omega arith))) e)
+
+-- all of them are
+pub eight-certified : (writers certified : List ℕ) (r i last : ℕ) → every (last - i) (λ k. writtenWell writers certified r (i + k)) ≡ true
+    → (o : ℕ) → i < o → o ≤ last → writtenWell writers certified r o ≡ true
+eight-certified writers certified r i last e o a b =
+    let here : i + (o - i) ≡ o = omega arith in
+    subst (λ (n : ℕ). writtenWell writers certified r n ≡ true) here
+    (every-at (last - i) (λ k. writtenWell writers certified r (i + k)) (o - i) e (omega arith) (omega arith))
+
+-- or r writes none of eight
+pub eight-unwritten : (writers certified : List ℕ) (r i : ℕ) → member (unions 8 (λ k. at writers (i + k))) r ≡ false
+    → (o : ℕ) → i < o → o ≤ i + 8 → writtenWell writers certified r o ≡ true
+eight-unwritten writers certified r i e o a b =
+    let here : i + (o - i) ≡ o = omega arith in
+    let none : member (at writers o) r ≡ false =
+    subst (λ (n : ℕ). member (at writers n) r ≡ false) here (member-unions 8 (λ k. at writers (i + k)) r (o - i) e (omega arith) (omega arith)) in
+    ap (λ (t : Bool). not t || marked certified o) none
+
 -- in version 2
-pub all-certified-is : (s : State) (r : ℕ) → s .counts .version ≢ 1 → allCertified s r ≡ every (s .counts .objects) (writtenWell (s .writers) (s .certified) r)
+all-certified-is : (s : State) (r : ℕ) → s .counts .version ≢ 1 → allCertified s r ≡ every (s .counts .objects) (writtenWell (s .writers) (s .certified) r)
 unfolding allCertified
 all-certified-is s r d =
     every-same (s .counts .objects) _ (writtenWell (s .writers) (s .certified) r)
     (λ o a b. ap (λ (t : Bool). not (holds s write r o) || (t || isCertified s o)) (ne-eqb (s .counts .version) 1 d))
 
 -- in version 1
-pub all-certified-first : (s : State) (r : ℕ) → s .counts .version ≡ 1 → allCertified s r ≡ true
+all-certified-first : (s : State) (r : ℕ) → s .counts .version ≡ 1 → allCertified s r ≡ true
 unfolding allCertified
 all-certified-first s r e =
     every-true (s .counts .objects) _
     (λ o a b. ap (λ (t : Bool). not (holds s write r o) || (t || isCertified s o)) (eq-eqb (s .counts .version) 1 e) ∙ or-right (not (holds s write r o)) true refl)
+
+-- 25, by the test that the code makes first: it is none in version 1 and of another kind, and else goes by the objects
+pub certify-first-none : (s : State) (k r : ℕ) → eqb (s .counts .version) 1 || not (eqb k 5) ≡ true → 0 ≡ (25 if eqb k 5 && not (allCertified s r) else 0)
+certify-first-none s k r e = go (eqb (s .counts .version) 1) refl (eqb k 5) e
+  where
+    go : (a : Bool) → eqb (s .counts .version) 1 ≡ a → (b : Bool) → a || not b ≡ true → 0 ≡ (25 if b && not (allCertified s r) else 0)
+    go a q false t = refl
+    go true q true t = ap (λ (c : Bool). 25 if not c else 0) (sym (all-certified-first s r (eqb-true (s .counts .version) 1 q)))
+    go false q true t = absurd (clash refl (sym t))
+
+pub certify-first-some : (s : State) (k r : ℕ) → eqb (s .counts .version) 1 || not (eqb k 5) ≡ false
+    → (25 if not (every (s .counts .objects) (writtenWell (s .writers) (s .certified) r)) else 0) ≡ (25 if eqb k 5 && not (allCertified s r) else 0)
+certify-first-some s k r e = go (eqb (s .counts .version) 1) refl (eqb k 5) e
+  where
+    go : (a : Bool) → eqb (s .counts .version) 1 ≡ a → (b : Bool) → a || not b ≡ false
+        → (25 if not (every (s .counts .objects) (writtenWell (s .writers) (s .certified) r)) else 0) ≡ (25 if b && not (allCertified s r) else 0)
+    go true q b t = absurd (clash refl t)
+    go false q false t = absurd (clash refl t)
+    go false q true t = ap (λ (c : Bool). 25 if not c else 0) (sym (all-certified-is s r (eqb-false (s .counts .version) 1 q)))
 
 pub finish-refusal : (s : State) (k r o : ℕ) → 5 ≤ k → k ≤ 6
     → eventRefusal s k r o

@@ -14,9 +14,9 @@ use Rattle.basics.specs.Choice.{if_then_else_, _orElse_}
 use Rattle.basics.specs.Loops.{least, least-le, firstNonzero, first-nonzero-more, first-nonzero-keeps}
 use Rattle.ranks.specs.Ranks.{member}
 use Rattle.state.specs.declared.Counts.{Counts}
-use Rattle.state.specs.State.{write, isWaiting}
+use Rattle.state.specs.State.{isWaiting}
 use Rattle.weights.specs.Keys.{noKey, lowestKey}
-use Rattle.rule.specs.Granting.{passesBelow, passes, wakes, namedKeyOf, reasonOf}
+use Rattle.rule.specs.Granting.{passesBelow, passes, wakes, namedKeyOf, conflicts, reasonOf}
 use Rattle.weights.specs.Parts.{keyAt}
 use Rattle.rule.specs.Parts.{waitsState}
 use Rattle.basics.specs.Arrays.{at-next}
@@ -35,20 +35,20 @@ named-stopped request key j w e = simp (ne-eqb request 0 w, e)
 
 -- ---- the reason
 
-module _ (m o h p writers ceiling : ℕ) where
-  abbrev conflicts : Bool
-  conflicts = eqb p o && (eqb m write || member writers h)
+module _ (version m o h p : ℕ) (none : Bool) (writers ceiling : ℕ) where
+  abbrev conflicting : Bool
+  conflicting = eqb p o && conflicts version m (member writers h) none
 
   abbrev caps : Bool
   caps = not (member writers h) && ltb h ceiling
 
-  pub conflict : conflicts ≡ true → 1 ≡ reasonOf m o h p writers ceiling
+  pub conflict : conflicting ≡ true → 1 ≡ reasonOf version m o h p none writers ceiling
   conflict e = simp e
 
-  pub cap : conflicts ≡ false → caps ≡ true → 3 ≡ reasonOf m o h p writers ceiling
+  pub cap : conflicting ≡ false → caps ≡ true → 3 ≡ reasonOf version m o h p none writers ceiling
   cap e d = simp (e, d)
 
-  pub else-ceiling : conflicts ≡ false → caps ≡ false → 2 ≡ reasonOf m o h p writers ceiling
+  pub else-ceiling : conflicting ≡ false → caps ≡ false → 2 ≡ reasonOf version m o h p none writers ceiling
   else-ceiling e d = simp (e, d)
 
 -- ---- the search
@@ -60,9 +60,9 @@ module _ (counts : Counts) (mayRead mayWrite readers writers certified request :
   idle : (n : ℕ) → getD request n 0 ≡ 0 → woken (n + 1) ≡ 0
   idle n e = simp (at-next, e)
 
-  stopped : (j o : ℕ) → 1 ≤ o → o ≤ counts .objects → passesBelow j (keyAt counts mayRead mayWrite readers writers j o) ≡ false → woken j ≡ 0
+  stopped : (j o : ℕ) → 1 ≤ o → o ≤ counts .objects → passesBelow j (keyAt counts mayRead mayWrite readers writers certified j o) ≡ false → woken j ≡ 0
   stopped j o p h b =
-      let key = keyAt counts mayRead mayWrite readers writers j in
+      let key = keyAt counts mayRead mayWrite readers writers certified j in
       let s = waitsState counts mayRead mayWrite readers writers certified request in
       let no : passes s j ≡ false =
       le-ltb j (lowestKey s j / 65536)
@@ -74,7 +74,7 @@ module _ (counts : Counts) (mayRead mayWrite readers writers certified request :
       go true b e = simp e
       go false b e = refl
 
-  let-by : (n : ℕ) → getD request n 0 ≢ 0 → (n + 1 + 1) * 65536 ≤ least (counts .objects) noKey (keyAt counts mayRead mayWrite readers writers (n + 1))
+  let-by : (n : ℕ) → getD request n 0 ≢ 0 → (n + 1 + 1) * 65536 ≤ least (counts .objects) noKey (keyAt counts mayRead mayWrite readers writers certified (n + 1))
       → woken (n + 1) ≡ n + 1
   let-by n w l =
       let s = waitsState counts mayRead mayWrite readers writers certified request in
@@ -91,11 +91,11 @@ module _ (counts : Counts) (mayRead mayWrite readers writers certified request :
     pub pass-idle : getD request n 0 ≡ 0 → firstNonzero (n + 1) woken ≡ 0
     pass-idle e = none-more (idle n e)
 
-    pub pass-stopped : (o : ℕ) → 1 ≤ o → o ≤ counts .objects → passesBelow (n + 1) (keyAt counts mayRead mayWrite readers writers (n + 1) o) ≡ false
+    pub pass-stopped : (o : ℕ) → 1 ≤ o → o ≤ counts .objects → passesBelow (n + 1) (keyAt counts mayRead mayWrite readers writers certified (n + 1) o) ≡ false
         → firstNonzero (n + 1) woken ≡ 0
     pass-stopped o p h b = none-more (stopped (n + 1) o p h b)
 
-    pub found : n < counts .jobs → getD request n 0 ≢ 0 → (n + 1 + 1) * 65536 ≤ least (counts .objects) noKey (keyAt counts mayRead mayWrite readers writers (n + 1))
+    pub found : n < counts .jobs → getD request n 0 ≢ 0 → (n + 1 + 1) * 65536 ≤ least (counts .objects) noKey (keyAt counts mayRead mayWrite readers writers certified (n + 1))
         → n + 1 ≡ firstNonzero (counts .jobs) woken
     found h w l =
         let here : firstNonzero (n + 1) woken ≡ suc n =

@@ -5,26 +5,18 @@ use mathlib.Core.Logic.{_≢_}
 use mathlib.Core.Bool.{Bool, true, false, not, _&&_, _||_}
 use mathlib.Core.List.{List}
 use Prim.Native.Nat.{ℕ, zero, suc, _+_, _-_, _^_, _≤_, _<_}
-use native.Mathlib.Nat.{eq-zero-or-pos}
 use native.Mathlib.Omega.{arith}
 use native.Mathlib.Decide.{ℕ-discrete}
 use lib.Dec.{eqb}
-use borrow.Author.Tests.{eqb-true, eqb-false}
+use borrow.Author.Tests.{eqb-true}
 use Rattle.basics.specs.Choice.{clash, and-true, and-left, and-right}
 use Rattle.basics.specs.Loops.{every, every-at, every-true, every-false, every-same, every-split}
 use Rattle.basics.specs.Arrays.{at}
 use Rattle.ranks.specs.Ranks.{isEmpty, member, without, first, union}
-use Rattle.ranks.specs.RankLaws.{member-empty, member-without-same, member-without-other, without-lt, first-pos, first-some, first-member}
+use Rattle.ranks.specs.RankLaws.{member-empty, member-without-same, member-without-other, without-lt, first-there}
 use Rattle.ranks.specs.UnionLaws.{empty-union}
 use Rattle.state.specs.State.{mostObjects, wordOf, placeOf, marked}
 use Rattle.state.specs.Survey.{certifiable, wordFits, certifiedWell}
-
--- the first member of a word that has one
-pub first-fits : (rest : ℕ) → isEmpty rest ≡ false → rest < 2 ^ 64 → (1 ≤ first 64 rest) × (first 64 rest ≤ 64) × (member rest (first 64 rest) ≡ true)
-first-fits rest e h =
-    let some : 0 < rest = omega (arith, eqb-false rest 0 e) in
-    let l = first-some 64 rest some h in
-    (first-pos 64 rest, l, first-member 64 rest l)
 
 module _ (rd wr : List ℕ) (word from : ℕ) where
   abbrev well : ℕ → Bool
@@ -115,8 +107,8 @@ module _ (version : ℕ) (marks rd wr : List ℕ) where
       here o a b m = sym (every-false mostObjects each o (ap₂ (λ (x y : Bool). not x || (y && certifiable (at rd o) (at wr o))) m v) a b)
 
       go : (x : Bool) → isEmpty (at marks 1) ≡ x → (y : Bool) → isEmpty (at marks 2) ≡ y → false ≡ every mostObjects each
-      go false p y q = (let f = first-fits (at marks 1) p low in here (first 64 (at marks 1)) (f .0) (omega (arith, f .1)) (mark-low (first 64 (at marks 1)) (f .0) (f .1) ∙ f .2))
-      go true p false q = (let f = first-fits (at marks 2) q high in here (64 + first 64 (at marks 2)) (omega arith) (omega (arith, f .1)) (mark-high (first 64 (at marks 2)) (f .0) (f .1) ∙ f .2))
+      go false p y q = (let f = first-there 64 (at marks 1) p low in here (first 64 (at marks 1)) (f .0) (omega (arith, f .1)) (mark-low (first 64 (at marks 1)) (f .0) (f .1) ∙ f .2))
+      go true p false q = (let f = first-there 64 (at marks 2) q high in here (64 + first 64 (at marks 2)) (omega arith) (omega (arith, f .1)) (mark-high (first 64 (at marks 2)) (f .0) (f .1) ∙ f .2))
       go true p true q = absurd (clash (empty-union (at marks 1) (at marks 2) ∙ ap₂ _&&_ p q) e)
 
   -- some object is marked: the version is 2, and the objects of each word are well

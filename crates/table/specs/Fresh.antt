@@ -18,14 +18,15 @@ use Rattle.ranks.specs.Ranks.{member, union}
 use Rattle.ranks.specs.RankLaws.{member-empty}
 use Rattle.ranks.specs.UnionLaws.{union-lt, empty-at-most-one}
 use Rattle.state.specs.declared.State.{State}
-use Rattle.state.specs.State.{mostJobs, read, write, mostObjects, zeroState, isObject, declaredAny, holds, isActive}
+use Rattle.state.specs.State.{mostJobs, read, write, mostObjects, markWords, wordOf, placeOf, zeroState, isObject, declaredAny, holds, isActive}
 use Rattle.state.specs.WellFormed.{countsFit, processorFits, processorsFit, declarationFits, declarationsFit, declaredOfJobs, aboveIdle}
-use Rattle.state.specs.WellFormed.{heldByActive, heldByRight, locksFit, lockedOnce, oneLockEach, writtenAlone, writersAlone, waitFits, waitsFit, marksFit, wellFormed}
+use Rattle.state.specs.WellFormed.{heldByActive, heldByRight, locksFit, lockedOnce, oneLockEach, writtenAlone, writersAlone, waitFits, waitsFit, marksFit, versionFits}
+use Rattle.state.specs.WellFormed.{certifyFits, certifiesFit, wellFormed}
 use Rattle.table.specs.declared.TableRead.{TableRead}
 use Rattle.table_bytes.specs.Bytes.{processorsIn, jobsIn, objectsIn, entryCount, tableLength}
 use Rattle.table_bytes.specs.Refusals.{tableRefusal}
 use Rattle.table.specs.Reading.{declaredIn, tableState, refusedRead, readTable}
-use Rattle.table_bytes.specs.AcceptedTable.{AcceptedTable, accepted-table, accepted-counts}
+use Rattle.table_bytes.specs.AcceptedTable.{AcceptedTable, accepted-table, accepted-version, accepted-counts}
 use Rattle.table.specs.Declarations.{SetsFit, declared-fits, processor-read}
 
 pub record Fresh (s : State) : Type 0 where
@@ -99,10 +100,19 @@ module _ (b : List ℕ) (a : AcceptedTable b) where
   unfolding marksFit tableState
   marks-fit = refl
 
+  version-fits : versionFits (tableState b) ≡ true
+  unfolding tableState
+  version-fits = accepted-version b a
+
+  -- no object is certified
+  certifies-fit : certifiesFit (tableState b) ≡ true
+  unfolding certifiesFit tableState
+  certifies-fit = every-true mostObjects (certifyFits (tableState b)) (λ o l h. simp (at-zeros markWords (wordOf o), member-empty (placeOf o)))
+
   pub table-well-formed : wellFormed (tableState b) ≡ true
   unfolding wellFormed
   table-well-formed =
-      simp (counts-fit, processors-fit, declarations-fit, above-idle, locks-fit, one-lock-each, writers-alone, waits-fit, marks-fit)
+      simp (counts-fit, processors-fit, declarations-fit, above-idle, locks-fit, one-lock-each, writers-alone, waits-fit, marks-fit, version-fits, certifies-fit)
 
   pub table-fresh : Fresh (tableState b)
   unfolding tableState

@@ -7,11 +7,11 @@ use mathlib.Core.Bool.{Bool, true, false, not, _&&_}
 use mathlib.Core.List.{List}
 use native.Mathlib.Omega.{arith}
 use lib.ListN.{length}
-use lib.Dec.{eqb, ltb}
+use lib.Dec.{ltb}
 use borrow.Author.Tests.{ltb-true, ltb-false, lt-ltb, le-ltb, eqb-true, eq-eqb, not-false}
 use Rattle.basics.specs.Choice.{between, and-true, and-left, and-right, between-true, inside-between, if-zero, or-else-zero}
 use Rattle.basics.specs.Loops.{first-nonzero-none, all-zero-first}
-use Rattle.state.specs.State.{mostJobs, mostObjects, mostProcessors}
+use Rattle.state.specs.State.{mostJobs, mostObjects, mostProcessors, isVersion}
 use Rattle.state.specs.WellFormed.{countsWithin}
 use Rattle.state.specs.Clauses.{counts-within, within-counts}
 use Rattle.table_bytes.specs.Bytes.{byte, versionIn, processorsIn, jobsIn, objectsIn, countsIn, processorIn, entryCount, entriesStart, tableLength}
@@ -34,7 +34,7 @@ pub record AcceptedTable (b : List ℕ) : Type 0 where
   pub mark-first : byte b 0 ≡ 74
   pub mark-second : byte b 1 ≡ 79
   pub mark-third : byte b 2 ≡ 66
-  pub version : versionIn b ≡ 1
+  pub version : (1 ≤ versionIn b) × (versionIn b ≤ 2)
   pub processors-low : 1 ≤ processorsIn b
   pub processors-high : processorsIn b ≤ mostProcessors
   pub jobs-low : 1 ≤ jobsIn b
@@ -57,12 +57,12 @@ three-true p q r x y z = and-true (p && q) r (and-true p q x y) z
 -- ---- the steps one by one, for the code that takes them one by one
 
 module _ (b : List ℕ) (ok : headerRefusal b ≡ 0) where
-  header : (ltb (length b) 8 ≡ false) × (hasMark b ≡ true) × (eqb (versionIn b) 1 ≡ true) × (countsWithin (countsIn b) ≡ true)
+  header : (ltb (length b) 8 ≡ false) × (hasMark b ≡ true) × (isVersion (versionIn b) ≡ true) × (countsWithin (countsIn b) ≡ true)
   unfolding headerRefusal
   header =
       let short = if-zero 0 (ltb (length b) 8) _ ok in
       let mark = if-zero 1 (not (hasMark b)) _ (short .1) in
-      let version = if-zero 2 (not (eqb (versionIn b) 1)) _ (mark .1) in
+      let version = if-zero 2 (not (isVersion (versionIn b))) _ (mark .1) in
       let counts = if-zero 3 (not (countsWithin (countsIn b))) _ (version .1) in
       (short .0, not-false _ (mark .0), not-false _ (version .0), not-false _ (counts .0))
 
@@ -143,7 +143,7 @@ module _ (b : List ℕ) (ok : tableRefusal b ≡ 0) where
         mark-first = eqb-true (byte b 0) 74 (m .0);
         mark-second = eqb-true (byte b 1) 79 (m .1);
         mark-third = eqb-true (byte b 2) 66 (m .2);
-        version = eqb-true (versionIn b) 1 (h .2);
+        version = between-true 1 2 (versionIn b) (h .2);
         processors-low = n .processors .0;
         processors-high = n .processors .1;
         jobs-low = n .jobs .0;
@@ -160,6 +160,9 @@ module _ (b : List ℕ) (ok : tableRefusal b ≡ 0) where
 -- ---- and back
 
 module _ (b : List ℕ) (a : AcceptedTable b) where
+  pub accepted-version : isVersion (versionIn b) ≡ true
+  accepted-version = inside-between 1 2 (versionIn b) (a .version .0) (a .version .1)
+
   pub accepted-counts : countsWithin (countsIn b) ≡ true
   accepted-counts =
       within-counts (countsIn b) (record {
@@ -173,7 +176,7 @@ module _ (b : List ℕ) (a : AcceptedTable b) where
   header-none =
       let mark : hasMark b ≡ true =
       three-true _ _ _ (eq-eqb (byte b 0) 74 (a .mark-first)) (eq-eqb (byte b 1) 79 (a .mark-second)) (eq-eqb (byte b 2) 66 (a .mark-third)) in
-      simp (le-ltb (length b) 8 (a .long), mark, eq-eqb (versionIn b) 1 (a .version), accepted-counts)
+      simp (le-ltb (length b) 8 (a .long), mark, accepted-version, accepted-counts)
 
   length-none : lengthRefusal b ≡ 0
   unfolding lengthRefusal

@@ -1,5 +1,6 @@
 -- The parts of table bytes (01, "Table bytes"): "`JOB`, version 1 (16 bits, high byte first), processors, jobs, objects (a byte each);
--- one processor byte per rank; the entry count (16 bits, high byte first, ..); entries of three bytes: rank, object, mode".
+-- one processor byte per rank; the entry count (16 bits, high byte first, ..); entries of three bytes: rank, object, mode". Tables of version 2
+-- (02, CR 6) have the same parts.
 -- Assumes nothing.
 use Prim.Native.Nat.{ℕ, zero, suc, _+_, _*_}
 use mathlib.Core.List.{List}
@@ -27,9 +28,9 @@ jobsIn b = byte b 6
 abbrev pub objectsIn : List ℕ → ℕ
 objectsIn b = byte b 7
 
--- the counts in the header
+-- the version and the counts in the header
 abbrev pub countsIn : List ℕ → Counts
-countsIn b = countsOf (processorsIn b) (jobsIn b) (objectsIn b)
+countsIn b = countsOf (versionIn b) (processorsIn b) (jobsIn b) (objectsIn b)
 
 -- the processor byte of rank k + 1
 abbrev pub processorIn : List ℕ → ℕ → ℕ

@@ -8,11 +8,11 @@ use mathlib.Core.List.{List, _++_}
 use native.Mathlib.Decide.{decLe}
 use native.Mathlib.Omega.{arith}
 use lib.ListN.{length, length-append, List·getD-append}
-use lib.Dec.{eqb, ltb}
+use lib.Dec.{ltb}
 use borrow.Author.Tests.{le-ltb, lt-ltb}
 use Rattle.basics.specs.Choice.{between, if-not, or-else-not}
 use Rattle.basics.specs.Loops.{firstNonzero, first-nonzero-same, first-nonzero-not}
-use Rattle.state.specs.State.{mostJobs, countsOf}
+use Rattle.state.specs.State.{mostJobs, isVersion, countsOf}
 use Rattle.state.specs.WellFormed.{countsWithin}
 use Rattle.table_bytes.specs.Bytes.{byte, word, versionIn, processorsIn, jobsIn, objectsIn, countsIn, entryCount, entriesStart, tableLength}
 use Rattle.table_bytes.specs.Bytes.{entryStart, entryRank, entryObject, entryMode, order, orderBefore, processorIn}
@@ -75,9 +75,10 @@ module _ (b more : List ℕ) where
 
   pub same-counts : 8 ≤ length b → countsIn (b ++ more) ≡ countsIn b
   same-counts h =
+      let v : versionIn (b ++ more) ≡ versionIn b = ap₂ (λ (x y : ℕ). x * 256 + y) (same 3 (omega arith)) (same 4 (omega arith)) in
       let p = same 5 (omega arith) in
       let o = same 7 (omega arith) in
-      λ i. countsOf (p i) (same-jobs h i) (o i)
+      λ i. countsOf (v i) (p i) (same-jobs h i) (o i)
 
   same-start : 8 ≤ length b → entriesStart (b ++ more) ≡ entriesStart b
   same-start h = ap (λ (j : ℕ). 10 + j) (same-jobs h)
@@ -180,7 +181,7 @@ module _ (b : List ℕ) where
   header-not-one h e =
       let rest = simp (le-ltb (length b) 8 h) at e in
       if-not 1 2 (not (hasMark b)) _ (λ q. omega arith)
-      (if-not 1 3 (not (eqb (versionIn b) 1)) _ (λ q. omega arith)
+      (if-not 1 3 (not (isVersion (versionIn b))) _ (λ q. omega arith)
       (if-not 1 4 (not (countsWithin (countsIn b))) 0 (λ q. omega arith) (λ q. omega arith))) rest
 
   processors-not-one : processorByteRefusal b ≡ 1 → ⊥

@@ -1,6 +1,7 @@
 -- The refusals of table bytes (01, "Refusals by who can cause them"), one definition for each step of its order:
 -- "fewer than 8 bytes is 1; then 2, 3, 4 on the header; 1 if processor bytes or entry count are cut; 4 on the entry count;
 -- 1 if the entries are cut; 5; then the first faulty entry, 6 before 7".
+-- 02, CR 6: "3 now means neither 1 nor 2".
 -- Assumes nothing.
 use Prim.Native.Nat.{ℕ, zero, suc}
 use mathlib.Core.Bool.{Bool, not, _&&_}
@@ -9,6 +10,7 @@ use lib.ListN.{length}
 use lib.Dec.{eqb, ltb}
 use Rattle.basics.specs.Choice.{_if_else_, _orElse_, between}
 use Rattle.basics.specs.Loops.{firstNonzero}
+use Rattle.state.specs.State.{isVersion}
 use Rattle.state.specs.WellFormed.{countsWithin}
 use Rattle.table_bytes.specs.Bytes.{byte, versionIn, processorsIn, jobsIn, objectsIn, countsIn, processorIn, entryCount, entriesStart, tableLength}
 use Rattle.table_bytes.specs.Bytes.{entryRank, entryObject, entryMode, order, orderBefore}
@@ -17,12 +19,12 @@ use Rattle.table_bytes.specs.Bytes.{entryRank, entryObject, entryMode, o
 abbrev pub hasMark : List ℕ → Bool
 hasMark b = eqb (byte b 0) 74 && eqb (byte b 1) 79 && eqb (byte b 2) 66
 
--- 1 bytes end early; 2 wrong mark; 3 version not 1; 4 a count outside its limits
+-- 1 bytes end early; 2 wrong mark; 3 version neither 1 nor 2; 4 a count outside its limits
 unfoldable pub headerRefusal : List ℕ → ℕ
 headerRefusal b =
     1 if ltb (length b) 8 else
     2 if not (hasMark b) else
-    3 if not (eqb (versionIn b) 1) else
+    3 if not (isVersion (versionIn b)) else
     4 if not (countsWithin (countsIn b)) else
     0
 

@@ -1,8 +1,10 @@
 // Where the parts of table bytes stand.
 ghost use mathlib.Core.Path.{_≡_};
+ghost use mathlib.Core.Bool.{true};
 ghost use Prim.Native.Nat.{_+_, _*_, _≤_, _<_};
 ghost use lib.ListN.{length};
-ghost use Rattle.table_bytes.specs.Bytes.{countsIn, entryCount, entriesStart, tableLength, entryStart};
+ghost use Rattle.state.specs.State.{isVersion};
+ghost use Rattle.table_bytes.specs.Bytes.{versionIn, countsIn, entryCount, entriesStart, tableLength, entryStart};
 use state::Counts;
 
 // The byte as a number that counts bytes.
@@ -19,12 +21,13 @@ pub fn word(high: u8, low: u8) -> usize
     wide(high) * 256 + wide(low)
 }
 
-// How many processors, jobs and objects the header says.
+// The version and the numbers of processors, jobs and objects in the header. A version's high byte is 0.
 pub fn counts_in(bytes: &[u8]) -> Counts
-    requires { ⌜ 8 ≤ length (now bytes) ⌝ }
+    requires { ⌜ (8 ≤ length (now bytes)) × (isVersion (versionIn (now bytes)) ≡ true) ⌝ }
     ensures { λ r. ⌜ r ≡ countsIn (now (bytes .entry)) ⌝ }
 {
     Counts {
+        version: bytes[4],
         processors: bytes[5],
         jobs: bytes[6],
         objects: bytes[7],

@@ -1,10 +1,11 @@
 // The refusals of table bytes, in document 01's order.
 ghost use mathlib.Core.Path.{_≡_};
 ghost use mathlib.Core.Bool.{_&&_};
-ghost use Prim.Native.Nat.{_+_, _≤_, _<_};
+ghost use Prim.Native.Nat.{_+_, _*_, _≤_, _<_};
 ghost use lib.ListN.{length};
 ghost use lib.Dec.{eqb};
 ghost use Rattle.basics.specs.Choice.{between};
+ghost use Rattle.state.specs.State.{isVersion};
 ghost use Rattle.table_bytes.specs.Bytes.{jobsIn, objectsIn, entriesStart, tableLength, entryStart, entryRank, entryObject, entryMode, order};
 ghost use Rattle.table_bytes.specs.Refusals.{headerRefusal, lengthRefusal, processorByteRefusal, entryRefusal, entriesRefusal, tableRefusal};
 use crate::bytes::counts_in;
@@ -15,6 +16,7 @@ use crate::bytes::table_length;
 use crate::bytes::wide;
 use crate::bytes::word;
 use state::counts_within;
+use state::is_version;
 use state::within;
 
 // Whether the three bytes are the mark `JOB`.
@@ -22,6 +24,13 @@ fn is_mark(first: u8, second: u8, third: u8) -> bool
     ensures { λ r. ⌜ r ≡ (eqb first 74 && eqb second 79 && eqb third 66) ⌝ }
 {
     first == b'J' && second == b'O' && third == b'B'
+}
+
+// Whether the two bytes, high byte first, are a version of which there are tables.
+fn is_version_word(high: u8, low: u8) -> bool
+    ensures { λ r. ⌜ r ≡ isVersion (high * 256 + low) ⌝ }
+{
+    (high == 0) & is_version(low)
 }
 
 // 1 to 4 on the header, 0 if it is right.
@@ -34,7 +43,7 @@ fn header_refusal(bytes: &[u8]) -> u8
     if !is_mark(bytes[0], bytes[1], bytes[2]) {
         return 2;
     }
-    if word(bytes[3], bytes[4]) != 1 {
+    if !is_version_word(bytes[3], bytes[4]) {
         return 3;
     }
     if !counts_within(counts_in(bytes)) {

@@ -10,7 +10,7 @@ use Rattle.table.specs.Example.{example}
 use Rattle.table_writer.specs.Writing.{rankBytes, entriesBytes, tableBytes}
 
 abbrev pub exampleState : State
-exampleState = freshState (countsOf 2 4 3) ((0 ∷ 1 ∷ 0 ∷ 1 ∷ []) ++ zeros 60) ((12 ∷ 2 ∷ 2 ∷ []) ++ zeros 125) ((1 ∷ []) ++ zeros 127)
+exampleState = freshState (countsOf 1 2 4 3) ((0 ∷ 1 ∷ 0 ∷ 1 ∷ []) ++ zeros 60) ((12 ∷ 2 ∷ 2 ∷ []) ++ zeros 125) ((1 ∷ []) ++ zeros 127)
 
 pub example-bytes : tableBytes exampleState ≡ example
 unfolding tableBytes entriesBytes rankBytes joined member

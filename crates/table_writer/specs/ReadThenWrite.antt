@@ -14,7 +14,7 @@ use Rattle.basics.specs.Arrays.{at, at-zeros}
 use Rattle.ranks.specs.Ranks.{member}
 use Rattle.ranks.specs.RankLaws.{member-empty}
 use Rattle.state.specs.State.{read, write, mostObjects, zeros}
-use Rattle.table_bytes.specs.Bytes.{byte, jobsIn, objectsIn, countsIn, entryCount, entriesStart, tableLength, entryRank, entryObject, entryMode, order, orderBefore}
+use Rattle.table_bytes.specs.Bytes.{byte, versionIn, jobsIn, objectsIn, countsIn, entryCount, entriesStart, tableLength, entryRank, entryObject, entryMode, order, orderBefore}
 use Rattle.table_bytes.specs.AcceptedTable.{AcceptedTable, EntryFits}
 use Rattle.table.specs.Reading.{givesRight, processorsOf, declaredIn, tableState}
 use Rattle.table_writer.specs.Writing.{wordBytes, entriesBytes, tableBytes}
@@ -127,7 +127,7 @@ module _ (b : List ℕ) (ok : AcceptedTable b) where
   header-back : headerOf (countsIn b) ≡ take 8 b
   header-back =
       let high : byte b 3 ≡ 0 = omega (arith, ok .version) in
-      let low : byte b 4 ≡ 1 = omega (arith, ok .version) in
+      let low : byte b 4 ≡ versionIn b = omega (arith, ok .version) in
       sym (eight b (ok .long) ∙ (λ i. ok .mark-first i ∷ ok .mark-second i ∷ ok .mark-third i ∷ high i ∷ low i ∷ byte b 5 ∷ byte b 6 ∷ byte b 7 ∷ []))
 
   processors-back : take (jobsIn b) (processorsOf b) ≡ take (jobsIn b) (drop 8 b)

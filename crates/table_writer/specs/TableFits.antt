@@ -1,4 +1,4 @@
--- What a well-formed state says of its table: the counts, the processors and the declared sets are within their limits.
+-- What a well-formed state says of its table: the version is one, the counts, the processors and the declared sets are within their limits.
 -- Assumes nothing.
 use mathlib.Core.Path.{_≡_, refl}
 use mathlib.Core.Bool.{Bool, true, false, _||_}
@@ -14,6 +14,7 @@ use Rattle.state.specs.WellFormed.{processorFits, processorsFit, declarationFit
 use Rattle.state.specs.Clauses.{clauses, counts-within}
 
 pub record TableFits (s : State) : Type 0 where
+  pub version : (1 ≤ s .counts .version) × (s .counts .version ≤ 2)
   pub processors-low : 1 ≤ s .counts .processors
   pub processors-high : s .counts .processors ≤ mostProcessors
   pub jobs-low : 1 ≤ s .counts .jobs
@@ -38,6 +39,7 @@ module _ (s : State) (ok : wellFormed s ≡ true) where
       let c = clauses s ok in
       let counts = counts-within (s .counts) (c .counts) in
       record {
+        version = between-true 1 2 (s .counts .version) (c .version);
         processors-low = counts .processors .0;
         processors-high = counts .processors .1;
         jobs-low = counts .jobs .0;

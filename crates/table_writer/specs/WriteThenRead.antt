@@ -3,7 +3,7 @@
 use mathlib.Core.Path.{_≡_, refl, sym, ap, ap₂, subst₂, _∙_}
 use mathlib.Core.List.{List, _++_, append-assoc}
 use Prim.Native.Nat.{ℕ, suc, _+_, _-_, _*_, _/_, _%_, _^_, _≤_, _<_}
-use native.Mathlib.Nat.{add-zero, le-trans, le-refl}
+use native.Mathlib.Nat.{zero-add, add-zero, le-trans, le-refl}
 use native.Mathlib.Omega.{arith}
 use lib.ListN.{length, getD, take, drop, length-append, List·getD-append}
 use lib.Seq.{getD-append-add, getD-drop, getD-take, drop-at, take-at, length-take-le}
@@ -13,9 +13,9 @@ use Rattle.basics.specs.Arrays.{at}
 use Rattle.ranks.specs.UnionLaws.{le-union}
 use Rattle.state.specs.declared.Counts.{Counts}
 use Rattle.state.specs.declared.State.{State}
-use Rattle.state.specs.State.{mostJobs, read, write, mostObjects, zeros, freshState, declaredAny}
+use Rattle.state.specs.State.{mostJobs, read, write, mostObjects, countsOf, zeros, freshState, declaredAny}
 use Rattle.table_bytes.specs.Refusals.{mostEntries}
-use Rattle.table_bytes.specs.Bytes.{byte, jobsIn, objectsIn, countsIn, entryCount, entriesStart, tableLength}
+use Rattle.table_bytes.specs.Bytes.{byte, versionIn, jobsIn, objectsIn, countsIn, entryCount, entriesStart, tableLength}
 use Rattle.table_bytes.specs.AcceptedTable.{AcceptedTable}
 use Rattle.table.specs.Declarations.{declared-fits}
 use Rattle.table.specs.Reading.{processorsOf, declaredIn, tableState}
@@ -81,9 +81,13 @@ module _ (s : State) (fits : TableFits s) (rest : List ℕ)
 
   -- ---- the header, the processor bytes and the count are read as they were written
 
+  version-is : versionIn b ≡ s .counts .version
+  unfolding tableBytes
+  version-is = zero-add (s .counts .version)
+
   counts-are : countsIn b ≡ s .counts
   unfolding tableBytes
-  counts-are = refl
+  counts-are = λ i. countsOf (version-is i) (s .counts .processors) (s .counts .jobs) (s .counts .objects)
 
   jobs-are : jobsIn b ≡ s .counts .jobs
   jobs-are = ap (λ (c : Counts). c .jobs) counts-are
@@ -152,7 +156,7 @@ module _ (s : State) (fits : TableFits s) (rest : List ℕ)
         mark-first = refl;
         mark-second = refl;
         mark-third = refl;
-        version = refl;
+        version = (omega (arith, version-is, fits .version), omega (arith, version-is, fits .version));
         processors-low = fits .processors-low;
         processors-high = fits .processors-high;
         jobs-low = fits .jobs-low;

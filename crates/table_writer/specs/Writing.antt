@@ -34,8 +34,9 @@ rankBytes s r = joined (s .counts .objects) (λ o. entryBytes r o (declaredMode 
 unfoldable pub entriesBytes : State → List ℕ
 entriesBytes s = joined (s .counts .jobs) (rankBytes s)
 
+-- the mark, the version in 16 bits, of which the high byte is 0, and the counts
 abbrev pub headerBytes : State → List ℕ
-headerBytes s = 74 ∷ 79 ∷ 66 ∷ 0 ∷ 1 ∷ s .counts .processors ∷ s .counts .jobs ∷ s .counts .objects ∷ []
+headerBytes s = 74 ∷ 79 ∷ 66 ∷ 0 ∷ s .counts .version ∷ s .counts .processors ∷ s .counts .jobs ∷ s .counts .objects ∷ []
 
 -- the bytes of a state's table
 unfoldable pub tableBytes : State → List ℕ

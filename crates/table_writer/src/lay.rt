@@ -93,7 +93,7 @@ fn lay_entries<'a>(
     }
 }
 
-// The mark, the version and the three counts laid at the front.
+// The mark, the version, whose high byte is 0, and the three counts laid at the front.
 fn lay_header(buf: &mut [u8], counts: Counts)
     requires { ⌜ 8 ≤ length (now buf) ⌝ }
     ensures { λ _. ⌜ now (buf .exit) ≡ laid (now (buf .entry)) 0 (headerOf counts) ⌝ }
@@ -102,7 +102,7 @@ fn lay_header(buf: &mut [u8], counts: Counts)
     buf[1] = b'O';
     buf[2] = b'B';
     buf[3] = 0;
-    buf[4] = 1;
+    buf[4] = counts.version;
     buf[5] = counts.processors;
     buf[6] = counts.jobs;
     buf[7] = counts.objects;

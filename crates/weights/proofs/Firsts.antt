@@ -16,7 +16,7 @@ use Rattle.state.specs.declared.Counts.{Counts}
 use Rattle.state.specs.State.{mostJobs}
 use Rattle.weights.specs.Weights.{ceilingOf, moreUrgent}
 use Rattle.weights.specs.Keys.{lockKey, noWeight, noKey, no-key-above}
-use Rattle.weights.specs.ObjectKeys.{readerKey, writerKey, objectKeyOf}
+use Rattle.weights.specs.ObjectKeys.{readerKey, writersWeight, writerKey, objectKeyOf}
 
 module _ (k top set : ℕ) (f : ℕ → ℕ) where
   over : ℕ → ℕ
@@ -68,12 +68,13 @@ unfolding writerKey
 writer-key-none writers ceiling o e =
     least-empty mostJobs noKey writers (λ r. lockKey ceiling r o) (λ r. ap (λ (set : ℕ). member set r) e ∙ member-empty r)
 
-pub object-key-none : (c : Counts) (readers writers mayRead mayWrite o j : ℕ) → union readers writers ≡ 0 → objectKeyOf c readers writers mayRead mayWrite o j ≡ noKey
+pub object-key-none : (c : Counts) (none : Bool) (readers writers mayRead mayWrite o j : ℕ) → union readers writers ≡ 0
+    → objectKeyOf c none readers writers mayRead mayWrite o j ≡ noKey
 unfolding objectKeyOf
-object-key-none c readers writers mayRead mayWrite o j e =
+object-key-none c none readers writers mayRead mayWrite o j e =
     let both : eqb readers 0 && eqb writers 0 ≡ true = sym (empty-union readers writers) ∙ eq-eqb (union readers writers) 0 e in
     let no-reader : readers ≡ 0 = eqb-true readers 0 (and-left (eqb readers 0) (eqb writers 0) both) in
     let no-writer : writers ≡ 0 = eqb-true writers 0 (and-right (eqb readers 0) (eqb writers 0) both) in
     ap₂ min
     (reader-key-none (without readers j) (ceilingOf c mayWrite) o (ap (λ (set : ℕ). without set j) no-reader ∙ without-empty j))
-    (writer-key-none (without writers j) (ceilingOf c (union mayRead mayWrite)) o (ap (λ (set : ℕ). without set j) no-writer ∙ without-empty j))
+    (writer-key-none (without writers j) (writersWeight c none mayRead mayWrite) o (ap (λ (set : ℕ). without set j) no-writer ∙ without-empty j))

@@ -9,7 +9,8 @@ use borrow.Author.Tests.{eq-eqb, ne-eqb}
 use Rattle.basics.specs.Choice.{if_then_else_}
 use Rattle.basics.specs.Arrays.{at, put, put-index}
 use Rattle.ranks.specs.Ranks.{with, without}
-use Rattle.state.specs.State.{grantReaders, grantWriters}
+use native.Mathlib.Omega.{arith}
+use Rattle.state.specs.State.{mark, grantReaders, grantWriters, grantMarks}
 use borrow.Author.Needs.{needs}
 use Rattle.changes.proofs.Elements.{changed}
 use Rattle.changes.proofs.grant.Statement.{statement}
@@ -21,6 +22,9 @@ readers-by m r o xs b e = sym (ap (λ (t : Bool). put xs o (if t then with (at x
 
 writers-by : (m r o : ℕ) (xs : List ℕ) (b : Bool) → eqb m 1 ≡ b → (if b then xs else put xs o (with (at xs o) r)) ≡ grantWriters m r o xs
 writers-by m r o xs b e = sym (ap (λ (t : Bool). if t then xs else put xs o (with (at xs o) r)) e)
+
+marks-by : (m o : ℕ) (words : List ℕ) (b : Bool) → eqb m 3 ≡ b → (if b then mark o words else words) ≡ grantMarks m o words
+marks-by m o words b e = sym (ap (λ (t : Bool). if t then mark o words else words) e)
 
 sub-i : tie.Need-sub-i
 sub-i c = search needs
@@ -86,18 +90,35 @@ returns c =
       changed (λ v. with v (a .rank)) (a .readers .now) (a .object) (c .with .result) (c .before .before .before .pre .2) (c .with .ensures)
           ∙ readers-by (a .mode) (a .rank) (a .object) (a .readers .now) true e,
       writers-by (a .mode) (a .rank) (a .object) (a .writers .now) true e,
+      marks-by (a .mode) (a .object) (a .certified .now) false (ne-eqb (a .mode) 3 (λ q. omega (arith, c .before .if1 .taken))),
       sym (put-index (a .request .now) (a .rank) 0 (c .before .before .before .pre .0)),
     )
 
+mark-object-requires : tie.Need-mark-object-requires
+mark-object-requires c κs = search needs
+
 returns-2 : tie.Need-returns-2
 returns-2 c =
-    let a = c .before .before .before .before .before .args in
-    let e = ne-eqb (a .mode) 1 (c .before .before .before .if1 .left) in (
-      changed (λ v. without v (a .rank)) (a .readers .now) (a .object) (c .before .without .result) (c .before .before .before .before .before .pre .2) (c .before .without .ensures)
+    let a = c .before .before .before .before .before .before .before .before .args in
+    let e = ne-eqb (a .mode) 1 (c .before .before .before .before .before .before .if1 .left) in (
+      changed (λ v. without v (a .rank)) (a .readers .now) (a .object) (c .before .before .before .before .without .result) (c .before .before .before .before .before .before .before .before .pre .2) (c .before .before .before .before .without .ensures)
           ∙ readers-by (a .mode) (a .rank) (a .object) (a .readers .now) false e,
-      changed (λ v. with v (a .rank)) (a .writers .now) (a .object) (c .with2 .result) (c .before .before .before .before .before .pre .2) (c .with2 .ensures)
+      changed (λ v. with v (a .rank)) (a .writers .now) (a .object) (c .before .before .before .with2 .result) (c .before .before .before .before .before .before .before .before .pre .2) (c .before .before .before .with2 .ensures)
           ∙ writers-by (a .mode) (a .rank) (a .object) (a .writers .now) false e,
-      sym (put-index (a .request .now) (a .rank) 0 (c .before .before .before .before .before .pre .0)),
+      c .mark-object .ensures ∙ marks-by (a .mode) (a .object) (a .certified .now) true (eq-eqb (a .mode) 3 (c .before .before .if2 .taken)),
+      sym (put-index (a .request .now) (a .rank) 0 (c .before .before .before .before .before .before .before .before .pre .0)),
+    )
+
+returns-3 : tie.Need-returns-3
+returns-3 c =
+    let a = c .before .before .before .before .before .before .args in
+    let e = ne-eqb (a .mode) 1 (c .before .before .before .before .if1 .left) in (
+      changed (λ v. without v (a .rank)) (a .readers .now) (a .object) (c .before .before .without .result) (c .before .before .before .before .before .before .pre .2) (c .before .before .without .ensures)
+          ∙ readers-by (a .mode) (a .rank) (a .object) (a .readers .now) false e,
+      changed (λ v. with v (a .rank)) (a .writers .now) (a .object) (c .before .with2 .result) (c .before .before .before .before .before .before .pre .2) (c .before .with2 .ensures)
+          ∙ writers-by (a .mode) (a .rank) (a .object) (a .writers .now) false e,
+      marks-by (a .mode) (a .object) (a .certified .now) false (ne-eqb (a .mode) 3 (c .if2 .left)),
+      sym (put-index (a .request .now) (a .rank) 0 (c .before .before .before .before .before .before .pre .0)),
     )
 
 pub grant-spec : {M : Type 1} → statement M
@@ -123,5 +144,7 @@ grant-spec =
     with-requires-2
     mul-writers
     element-write-writers
+    mark-object-requires
     returns
-    returns-2)
+    returns-2
+    returns-3)

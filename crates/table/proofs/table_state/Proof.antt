@@ -4,7 +4,7 @@ use Prim.Native.Nat.{ℕ}
 use mathlib.Core.Path.{_≡_, _∙_}
 use mathlib.Core.List.{List}
 use denote.Ref.{now}
-use Rattle.table_bytes.specs.AcceptedTable.{accepted-table}
+use Rattle.table_bytes.specs.AcceptedTable.{accepted-table, accepted-version}
 use Rattle.state.specs.declared.Counts.{Counts}
 use Rattle.state.specs.declared.State.{State}
 use Rattle.state.specs.State.{read, write, freshState}
@@ -27,7 +27,10 @@ declared-requires : tie.Need-declared-requires
 declared-requires c κs = search needs
 
 counts-in-requires : tie.Need-counts-in-requires
-counts-in-requires c κs = accepted-table (now (c .before .before .before .before .before .args .bytes)) (c .before .before .before .before .before .pre) .long
+counts-in-requires c κs =
+    let b = now (c .before .before .before .before .before .args .bytes) in
+    let a = accepted-table b (c .before .before .before .before .before .pre) in
+    (a .long, accepted-version b a)
 
 fresh-state-requires : tie.Need-fresh-state-requires
 fresh-state-requires c κs = search needs

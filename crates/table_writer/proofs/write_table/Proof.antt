@@ -32,6 +32,7 @@ sized c = record {
   may-write = search needs;
   readers = search needs;
   writers = search needs;
+  certified = search needs;
   request = search needs;
 }
 

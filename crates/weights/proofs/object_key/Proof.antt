@@ -1,5 +1,9 @@
 -- `weights::object_key` meets its contract: with no holder there is no key, and else it is the definition.
 -- Assumes nothing.
+use denote.Ref.{now}
+use mathlib.Core.Bool.{_||_}
+use lib.Dec.{eqb}
+use Rattle.state.specs.State.{marked}
 use mathlib.Core.Path.{_≡_, sym, _∙_}
 use borrow.Author.Tests.{eqb-true}
 use Rattle.ranks.specs.Ranks.{union}
@@ -20,7 +24,7 @@ returns c =
     let a = c .before .before .before .args in
     let none : union (a .readers) (a .writers) ≡ 0 =
     sym (c .before .before .union .ensures) ∙ eqb-true (c .before .before .union .result) 0 (sym (c .before .is-empty .ensures) ∙ c .if1 .taken) in
-    sym (object-key-none (a .counts) (a .readers) (a .writers) (a .may-read) (a .may-write) (a .object) (a .rank) none)
+    sym (object-key-none (a .counts) (eqb (a .counts .version) 1 || marked (now (a .certified)) (a .object)) (a .readers) (a .writers) (a .may-read) (a .may-write) (a .object) (a .rank) none)
 
 without-requires : tie.Need-without-requires
 without-requires c κs = search needs
@@ -33,12 +37,6 @@ reader-key-requires c κs = search needs
 
 without-requires-2 : tie.Need-without-requires-2
 without-requires-2 c κs = search needs
-
-union-requires-2 : tie.Need-union-requires-2
-union-requires-2 c κs = search needs
-
-ceiling-requires-2 : tie.Need-ceiling-requires-2
-ceiling-requires-2 c κs = search needs
 
 writer-key-requires : tie.Need-writer-key-requires
 writer-key-requires c κs = search needs
@@ -61,8 +59,6 @@ object-key-spec =
     ceiling-requires
     reader-key-requires
     without-requires-2
-    union-requires-2
-    ceiling-requires-2
     writer-key-requires
     lower-requires
     returns-2)

@@ -9,9 +9,9 @@ use native.Mathlib.Omega.{arith}
 use borrow.Author.Tests.{eqb-true, not-true, not-false}
 use Rattle.basics.specs.Arrays.{at}
 use Rattle.ranks.specs.Ranks.{without, first}
-use Rattle.ranks.specs.RankLaws.{first-pos, first-le, first-without}
+use Rattle.ranks.specs.RankLaws.{first-pos, first-le, first-there, first-without}
 use Rattle.state.specs.Survey.{certifiable}
-use Rattle.state.proofs.MarkLaws.{Seen, first-fits, none-seen, one-seen, not-well, all-seen}
+use Rattle.state.proofs.MarkLaws.{Seen, none-seen, one-seen, not-well, all-seen}
 use borrow.Author.Needs.{needs}
 use Rattle.state.proofs.marks.word_fits.Statement.{statement}
 use Rattle.state.proofs.marks.word_fits.Tie as tie
@@ -56,7 +56,7 @@ mul-is-empty c = search needs
 
 element-copy-out-is-empty : tie.Need-element-copy-out-is-empty Inv-loop μ-loop
 element-copy-out-is-empty c =
-    let f = first-fits (c .before .before .before .loop .rest) (sym (c .before .before .is-empty .ensures) ∙ not-true (c .before .before .is-empty .result) (c .before .if1 .taken)) (c .before .before .before .loop .inv .small) in
+    let f = first-there 64 (c .before .before .before .loop .rest) (sym (c .before .before .is-empty .ensures) ∙ not-true (c .before .before .is-empty .result) (c .before .if1 .taken)) (c .before .before .before .loop .inv .small) in
     omega (arith, c .first .ensures, f .0, f .1, c .before .before .before .before .pre)
 
 is-empty-requires-2 : tie.Need-is-empty-requires-2 Inv-loop μ-loop
@@ -67,7 +67,7 @@ mul-is-empty-2 c = search needs
 
 element-copy-out-is-empty-2 : tie.Need-element-copy-out-is-empty-2 Inv-loop μ-loop
 element-copy-out-is-empty-2 c =
-    let f = first-fits (c .before .before .before .before .before .loop .rest) (sym (c .before .before .before .before .is-empty .ensures) ∙ not-true (c .before .before .before .before .is-empty .result) (c .before .before .before .if1 .taken)) (c .before .before .before .before .before .loop .inv .small) in
+    let f = first-there 64 (c .before .before .before .before .before .loop .rest) (sym (c .before .before .before .before .is-empty .ensures) ∙ not-true (c .before .before .before .before .is-empty .result) (c .before .before .before .if1 .taken)) (c .before .before .before .before .before .loop .inv .small) in
     omega (arith, c .before .before .first .ensures, f .0, f .1, c .before .before .before .before .before .before .pre)
 
 is-empty-requires-3 : tie.Need-is-empty-requires-3 Inv-loop μ-loop
@@ -77,7 +77,7 @@ returns : tie.Need-returns Inv-loop μ-loop
 returns c =
     let a = c .before .before .before .before .before .before .before .before .before .args in
     let rest = c .before .before .before .before .before .before .before .before .loop .rest in
-    let f = first-fits rest (sym (c .before .before .before .before .before .before .before .is-empty .ensures) ∙ not-true (c .before .before .before .before .before .before .before .is-empty .result) (c .before .before .before .before .before .before .if1 .taken)) (c .before .before .before .before .before .before .before .before .loop .inv .small) in
+    let f = first-there 64 rest (sym (c .before .before .before .before .before .before .before .is-empty .ensures) ∙ not-true (c .before .before .before .before .before .before .before .is-empty .result) (c .before .before .before .before .before .before .if1 .taken)) (c .before .before .before .before .before .before .before .before .loop .inv .small) in
     let here : suc (a .from + c .before .before .before .before .before .first .result - 1) ≡ a .from + first 64 rest = omega (arith, c .before .before .before .before .before .first .ensures, f .0) in
     let bad : certifiable (at (now (a .readers)) (suc (a .from + c .before .before .before .before .before .first .result - 1))) (at (now (a .writers)) (suc (a .from + c .before .before .before .before .before .first .result - 1))) ≡ false =
     ap₂ (λ (x y : Bool). not x && y) (sym (c .before .before .before .is-empty2 .ensures)) (sym (c .before .is-empty3 .ensures)) ∙ not-either (c .before .before .before .is-empty2 .result) (c .before .is-empty3 .result) ∙ ap not (c .if2 .taken) in
@@ -86,13 +86,13 @@ returns c =
 
 without-requires : tie.Need-without-requires Inv-loop μ-loop
 without-requires c κs =
-    let f = first-fits (c .before .before .before .before .before .before .before .before .loop .rest) (sym (c .before .before .before .before .before .before .before .is-empty .ensures) ∙ not-true (c .before .before .before .before .before .before .before .is-empty .result) (c .before .before .before .before .before .before .if1 .taken)) (c .before .before .before .before .before .before .before .before .loop .inv .small) in
+    let f = first-there 64 (c .before .before .before .before .before .before .before .before .loop .rest) (sym (c .before .before .before .before .before .before .before .is-empty .ensures) ∙ not-true (c .before .before .before .before .before .before .before .is-empty .result) (c .before .before .before .before .before .before .if1 .taken)) (c .before .before .before .before .before .before .before .before .loop .inv .small) in
     (omega (arith, c .before .before .before .before .before .first .ensures, f .0), omega (arith, c .before .before .before .before .before .first .ensures, f .1))
 
 loop-less : tie.Need-loop-less Inv-loop μ-loop
 loop-less c =
     let rest = c .before .before .before .before .before .before .before .before .before .loop .rest in
-    let f = first-fits rest (sym (c .before .before .before .before .before .before .before .before .is-empty .ensures) ∙ not-true (c .before .before .before .before .before .before .before .before .is-empty .result) (c .before .before .before .before .before .before .before .if1 .taken)) (c .before .before .before .before .before .before .before .before .before .loop .inv .small) in
+    let f = first-there 64 rest (sym (c .before .before .before .before .before .before .before .before .is-empty .ensures) ∙ not-true (c .before .before .before .before .before .before .before .before .is-empty .result) (c .before .before .before .before .before .before .before .if1 .taken)) (c .before .before .before .before .before .before .before .before .before .loop .inv .small) in
     let after : c .without .result ≡ without rest (first 64 rest) = c .without .ensures ∙ ap (without rest) (c .before .before .before .before .before .before .first .ensures) in
     omega (arith, f .1, first-without 64 rest (f .1), ap (first 64) after, first-le 64 (without rest (first 64 rest)))
 
@@ -100,7 +100,7 @@ loop-again : tie.Need-loop-again Inv-loop μ-loop
 loop-again c =
     let a = c .before .before .before .before .before .before .before .before .before .before .args in
     let rest = c .before .before .before .before .before .before .before .before .before .loop .rest in
-    let f = first-fits rest (sym (c .before .before .before .before .before .before .before .before .is-empty .ensures) ∙ not-true (c .before .before .before .before .before .before .before .before .is-empty .result) (c .before .before .before .before .before .before .before .if1 .taken)) (c .before .before .before .before .before .before .before .before .before .loop .inv .small) in
+    let f = first-there 64 rest (sym (c .before .before .before .before .before .before .before .before .is-empty .ensures) ∙ not-true (c .before .before .before .before .before .before .before .before .is-empty .result) (c .before .before .before .before .before .before .before .if1 .taken)) (c .before .before .before .before .before .before .before .before .before .loop .inv .small) in
     let here : suc (a .from + c .before .before .before .before .before .before .first .result - 1) ≡ a .from + first 64 rest = omega (arith, c .before .before .before .before .before .before .first .ensures, f .0) in
     let good : certifiable (at (now (a .readers)) (suc (a .from + c .before .before .before .before .before .before .first .result - 1))) (at (now (a .writers)) (suc (a .from + c .before .before .before .before .before .before .first .result - 1))) ≡ true =
     ap₂ (λ (x y : Bool). not x && y) (sym (c .before .before .before .before .is-empty2 .ensures)) (sym (c .before .before .is-empty3 .ensures)) ∙ not-either (c .before .before .before .before .is-empty2 .result) (c .before .before .is-empty3 .result) ∙ ap not (c .before .if2 .left) in
