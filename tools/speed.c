@@ -1,6 +1,8 @@
 /* The processor time of the library beside that of the plain C peer (speed_peer.c), run in turn: prints ratios, of all rounds' the middle one.
  * Usage: speed ROUNDS < LOAD, where LOAD is a table and then events of three bytes. Prints three ratios to the peer: the library's event, all the events
  *        in one list, `event` by value. The answers of all have to be the same.
+ *        speed ROUNDS LOAD LOAD_2, two such files, of a table of version 1 and of one of version 2. Prints the library's time for an event of the second as a
+ *        ratio to its own for one of the first, twice: for single events and for all in one list.
  *        speed ROUNDS waiting. Prints how the time of an unlock that wakes nobody grows with the number of waiting jobs: the library's and the peer's,
  *        each as a ratio to its own with none waiting, and the library's as a ratio to the peer's.
  * Built by tools/speed, with tests/c on the include path. */
@@ -33,65 +35,111 @@ static double middle_ratio(const double *ours, const double *theirs, int rounds)
 
 /* ---- A load */
 
-static uint8_t input[1 << 22];
-static size_t used, size;
+/* A table and then events: the bytes, how many they are, and how many of them are the table. */
+typedef struct {
+    uint8_t bytes[1 << 22];
+    size_t size, used;
+} load;
+
 static double times[MANAGERS][MOST_ROUNDS];
 
-static uint32_t play_library(void)
+static uint32_t play_library(load *l)
 {
     static vongselik_state s;
     uint32_t answers = 0;
     size_t i;
-    vongselik_read_table(&s, input, size, &used);
-    for (i = used; i + 3 <= size; i += 3) {
-        vongselik_answer a = vongselik_event(&s, input[i], input[i + 1], input[i + 2]);
+    vongselik_read_table(&s, l->bytes, l->size, &l->used);
+    for (i = l->used; i + 3 <= l->size; i += 3) {
+        vongselik_answer a = vongselik_event(&s, l->bytes[i], l->bytes[i + 1], l->bytes[i + 2]);
         answers ^= (uint32_t)a.answer << 24 | (uint32_t)(a.holder | a.woken | a.refusal) << 16 | (uint32_t)a.object << 8 | (uint32_t)a.reason;
     }
     return answers;
 }
 
-static uint32_t play_list(void)
+static uint32_t play_list(load *l)
 {
     static vongselik_state s;
-    static uint32_t listed[sizeof input / 3];
+    static uint32_t listed[sizeof l->bytes / 3];
     uint32_t answers = 0;
     size_t count, i;
-    vongselik_read_table(&s, input, size, &used);
-    count = vongselik_events(&s, input + used, listed, (size - used) / 3);
+    vongselik_read_table(&s, l->bytes, l->size, &l->used);
+    count = vongselik_events(&s, l->bytes + l->used, listed, (l->size - l->used) / 3);
     for (i = 0; i < count; i++) answers ^= listed[i];
     return answers;
 }
 
 /* The exclusive or of the manager's packed answers to the load. */
-static uint32_t play(int manager)
+static uint32_t play(int manager, load *l)
 {
     switch (manager) {
-    case PEER: return peer_answers(input, size, &used);
-    case LIBRARY: return play_library();
-    case LIST: return play_list();
-    default: return by_value_answers(input, used, input + used, size - used);
+    case PEER: return peer_answers(l->bytes, l->size, &l->used);
+    case LIBRARY: return play_library(l);
+    case LIST: return play_list(l);
+    default: return by_value_answers(l->bytes, l->used, l->bytes + l->used, l->size - l->used);
     }
+}
+
+/* The processor time of the manager on the load in seconds. Ends the program unless the answers are those expected. */
+static double time_manager(int manager, load *l, uint32_t expected)
+{
+    double start = processor_time();
+    if (play(manager, l) != expected) {
+        fprintf(stderr, "the answers differ\n");
+        exit(1);
+    }
+    return processor_time() - start;
 }
 
 static void time_load(int rounds)
 {
+    static load given;
     int k, i;
     uint32_t expected;
-    size = fread(input, 1, sizeof input, stdin);
-    expected = play(PEER);
+    given.size = fread(given.bytes, 1, sizeof given.bytes, stdin);
+    expected = play(PEER, &given);
     for (k = 0; k < rounds; k++)
         for (i = 0; i < MANAGERS; i++) {
             int manager = (k + i) % MANAGERS;
-            double start = processor_time();
-            if (play(manager) != expected) {
-                fprintf(stderr, "the answers differ\n");
-                exit(1);
-            }
-            times[manager][k] = processor_time() - start;
+            times[manager][k] = time_manager(manager, &given, expected);
         }
     printf("library %.2f, ", middle_ratio(times[LIBRARY], times[PEER], rounds));
     printf("list %.2f, ", middle_ratio(times[LIST], times[PEER], rounds));
     printf("event by value %.2f", middle_ratio(times[BY_VALUE], times[PEER], rounds));
+}
+
+/* ---- The two versions */
+
+/* Reads the load from the file. Ends the program unless its table is one of the version. */
+static void read_load(load *l, const char *name, int version)
+{
+    static vongselik_state s;
+    FILE *file = fopen(name, "rb");
+    l->size = file ? fread(l->bytes, 1, sizeof l->bytes, file) : 0;
+    if (file) fclose(file);
+    if (!vongselik_read_table(&s, l->bytes, l->size, &l->used) && s.version == version) return;
+    fprintf(stderr, "%s: no load of version %d\n", name, version);
+    exit(1);
+}
+
+/* Times single events (0) and the list of all (1) on the load of each version, in turn; of an event. */
+static void time_versions(int rounds, const char *first, const char *second)
+{
+    static load loads[2];
+    static double event_times[2][2][MOST_ROUNDS];
+    uint32_t expected[2];
+    int k, i;
+    for (i = 0; i < 2; i++) {
+        read_load(&loads[i], i ? second : first, i + 1);
+        expected[i] = play_library(&loads[i]);
+    }
+    for (k = 0; k < rounds; k++)
+        for (i = 0; i < 4; i++) {
+            int list = (k + i) % 4 / 2, version = (k + i) % 2;
+            load *l = &loads[version];
+            event_times[list][version][k] = time_manager(list ? LIST : LIBRARY, l, expected[version]) / (double)((l->size - l->used) / 3);
+        }
+    printf("library %.2f, ", middle_ratio(event_times[0][1], event_times[0][0], rounds));
+    printf("list %.2f of version 1, by event\n", middle_ratio(event_times[1][1], event_times[1][0], rounds));
 }
 
 /* ---- Waiting jobs */
@@ -132,7 +180,9 @@ int main(int argc, char **argv)
 {
     int rounds = argc > 1 ? atoi(argv[1]) : 11;
     if (rounds < 1 || rounds > MOST_ROUNDS) return 2;
-    if (argc > 2)
+    if (argc > 3)
+        time_versions(rounds, argv[2], argv[3]);
+    else if (argc > 2)
         time_waiting(rounds);
     else
         time_load(rounds);

@@ -25,8 +25,8 @@ static unsigned long met[4][4];
 enum { BY_14_AND_25, BY_24_READER, BY_24_OTHERS, BY_17_CERTIFIED, BY_21_CERTIFIED, FINISHED, ABANDONED, DROPPED, SPECIAL };
 
 static const char *const special_name[SPECIAL] = {
-    "14 before 25:", "24 for a reader:", "24 where another has certified:", "17 on a certified object:", "21 on a certified object:",
-    "a finish with a certify lock:", "an abandonment with a certify lock:", "an abandonment of a job that waits to certify:"};
+    "14 before 25:", "24 for a reader:", "24 where another has certified:", "17 where the job has certified:", "21 where the job has certified:",
+    "finish with a certify lock:", "abandonment with one:", "abandonment of a job that waits to certify:"};
 
 static unsigned long special[SPECIAL];
 
@@ -158,9 +158,9 @@ static void print_version_2(void)
         printf("\n");
     }
     for (i = 0; i < SPECIAL; i++) {
-        printf(" ");
+        printf(i % 4 ? "," : " ");
         print_came(special_name[i], special[i]);
-        printf("\n");
+        if (i % 4 == 3) printf("\n");
     }
 }
 

@@ -4,7 +4,7 @@ use mathlib.Core.Path.{_≡_, sym, ap, _∙_}
 use mathlib.Core.Logic.{_≢_, inl, inr}
 use mathlib.Core.Bool.{true, false}
 use mathlib.Core.List.{List}
-use Prim.Native.Nat.{ℕ, _≤_}
+use Prim.Native.Nat.{ℕ, _-_, _≤_}
 use native.Mathlib.Omega.{arith}
 use native.Mathlib.Decide.{ℕ-discrete, decLe}
 use lib.ListN.{length}
@@ -18,7 +18,7 @@ use Rattle.weights.specs.KeyLaws.{key-at}
 use Rattle.rule.specs.Granting.{passesBelow, reason, wakeable}
 use Rattle.events.specs.declared.Answer.the-variants.{Granted, Waits, Done, Refused}
 use Rattle.refusals.specs.Accepting.{RequestsFit}
-use Rattle.refusals.specs.Refusals.{modeOf, eventRefusal}
+use Rattle.refusals.specs.Refusals.{eventRefusal}
 use Rattle.events.specs.Events.{outcome, requestMeeting, request, woken, wake, unlock, finish, accepted, perform}
 
 -- ---- the rule of each kind
@@ -28,9 +28,9 @@ module _ (s : State) (k r o : ℕ) where
   unfolding accepted
   accepted-start e = rw e
 
-  pub accepted-lock : 2 ≤ k → k ≤ 3 → accepted s k r o ≡ request s (modeOf k) r o
+  pub accepted-lock : 2 ≤ k → k ≤ 3 → accepted s k r o ≡ request s (k - 1) r o
   unfolding accepted
-  accepted-lock a b = simp (ne-eqb k 1 (λ e. omega arith), inside-between 2 3 k a b)
+  accepted-lock a b = simp (ne-eqb k 1 (λ e. omega arith), inside-between 2 3 k a b, ne-eqb k 7 (λ e. omega arith))
 
   pub accepted-certify : k ≡ 7 → accepted s k r o ≡ request s certify r o
   unfolding accepted

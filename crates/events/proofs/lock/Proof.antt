@@ -35,24 +35,24 @@ lock-refusal-requires c κs = search needs
 returns : tie.Need-returns
 returns c =
     let a = c .before .before .before .before .before .args in
-    λ ps. L.perform-refused (whole ((c .before .before .before .before .before)) ps) (a .kind) (a .rank) (a .object) (c .before .lock-refusal .result) (c .before .lock-refusal .ensures ps) (c .if1 .taken)
+    λ ps. L.perform-refused (whole ((c .before .before .before .before .before)) ps) (a .kind) (a .rank) (a .object) (c .before .lock-refusal .result) (c .before .lock-refusal .ensures ps (now (a .certified))) (c .if1 .taken)
 
 sub-grant-or-wait : tie.Need-sub-grant-or-wait
 sub-grant-or-wait c = search needs
 
 grant-or-wait-requires : tie.Need-grant-or-wait-requires
 grant-or-wait-requires c κs =
-    let P = c .before .before .before .before .before .before .before .before .pre in
-    let n = numbers ((c .before .before .before .before .before .before .before .before)) (sym (c .before .before .before .before .lock-refusal .ensures []) ∙ c .before .before .before .if1 .left) in
-    (P .1, omega (arith, P .3), n .0, n .1, n .2, n .3)
+    let P = c .before .before .before .before .before .before .before .before .before .pre in
+    let n = numbers ((c .before .before .before .before .before .before .before .before .before)) (sym (c .before .before .before .before .before .lock-refusal .ensures [] (now (c .before .before .before .before .before .before .before .before .before .args .certified))) ∙ c .before .before .before .before .if1 .left) in
+    (P .1, omega (arith, P .2), omega (arith, P .3), n .0, n .1, n .2, n .3)
 
 returns-2 : tie.Need-returns-2
 returns-2 c =
-    let a = c .before .before .before .before .before .before .before .before .before .args in
+    let a = c .before .before .before .before .before .before .before .before .before .before .args in
     λ ps.
-    let s = whole ((c .before .before .before .before .before .before .before .before .before)) ps in
+    let s = whole ((c .before .before .before .before .before .before .before .before .before .before)) ps in
     c .grant-or-wait .ensures (a .active) (a .unlocked) ps
-    ∙ sym (L.perform-accepted s (a .kind) (a .rank) (a .object) (sym (c .before .before .before .before .before .lock-refusal .ensures ps) ∙ c .before .before .before .before .if1 .left) ∙ L.accepted-lock s (a .kind) (a .rank) (a .object) (c .before .before .before .before .before .before .before .before .before .pre .2) (c .before .before .before .before .before .before .before .before .before .pre .3))
+    ∙ sym (L.perform-accepted s (a .kind) (a .rank) (a .object) (sym (c .before .before .before .before .before .before .lock-refusal .ensures ps (now (a .certified))) ∙ c .before .before .before .before .before .if1 .left) ∙ L.accepted-lock s (a .kind) (a .rank) (a .object) (c .before .before .before .before .before .before .before .before .before .before .pre .2) (c .before .before .before .before .before .before .before .before .before .before .pre .3))
 
 pub lock-spec : {M : Type 1} → statement M
 lock-spec =

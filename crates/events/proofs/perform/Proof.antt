@@ -14,15 +14,18 @@ use borrow.Author.Needs.{needs}
 use Rattle.events.proofs.perform.Statement.{statement}
 use Rattle.events.proofs.perform.Tie as tie
 
--- a kind past 6 is none of the six
-beyond : (k : ℕ) → 7 ≤ k → between 1 6 k ≡ false
-beyond k h = simp (le-leb 1 k (omega arith), lt-leb k 6 (omega arith))
+-- a kind past 7 is none of the seven
+beyond : (k : ℕ) → 8 ≤ k → between 1 7 k ≡ false
+beyond k h = simp (le-leb 1 k (omega arith), lt-leb k 7 (omega arith))
 
 start-requires : tie.Need-start-requires
 start-requires c κs = search needs
 
 unlock-requires : tie.Need-unlock-requires
 unlock-requires c κs = search needs
+
+certify-requires : tie.Need-certify-requires
+certify-requires c κs = search needs
 
 lock-requires : tie.Need-lock-requires
 lock-requires c κs = search needs
@@ -38,24 +41,29 @@ returns c =
 
 returns-2 : tie.Need-returns-2
 returns-2 c =
-    let b = c .before .before .before .before .before .before .before .args in
-    λ ps. c .unlock .ensures ps ∙ ap (λ (k : ℕ). E.perform (stateOf (b .counts) ps (now (b .may-read)) (now (b .may-write)) (now (b .active)) (now (b .unlocked)) (now (b .readers)) (now (b .writers)) (now (b .certified)) (now (b .request))) k (b .rank) (b .object)) (sym (c .before .before .before .before .before .before .match .keys2))
+    let b = c .before .before .before .before .before .before .before .before .args in
+    λ ps. c .unlock .ensures ps ∙ ap (λ (k : ℕ). E.perform (stateOf (b .counts) ps (now (b .may-read)) (now (b .may-write)) (now (b .active)) (now (b .unlocked)) (now (b .readers)) (now (b .writers)) (now (b .certified)) (now (b .request))) k (b .rank) (b .object)) (sym (c .before .before .before .before .before .before .before .match .keys2))
 
 returns-3 : tie.Need-returns-3
-returns-3 c = c .lock .ensures
+returns-3 c =
+    let b = c .before .before .before .before .before .before .before .before .args in
+    λ ps. c .certify .ensures ps ∙ ap (λ (k : ℕ). E.perform (stateOf (b .counts) ps (now (b .may-read)) (now (b .may-write)) (now (b .active)) (now (b .unlocked)) (now (b .readers)) (now (b .writers)) (now (b .certified)) (now (b .request))) k (b .rank) (b .object)) (sym (c .before .before .before .before .before .before .before .match .keys3))
 
 returns-4 : tie.Need-returns-4
-returns-4 c = c .finish .ensures
+returns-4 c = c .lock .ensures
 
 returns-5 : tie.Need-returns-5
-returns-5 c =
-    let b = c .before .args in
-    λ ps. L.perform-unknown (stateOf (b .counts) ps (now (b .may-read)) (now (b .may-write)) (now (b .active)) (now (b .unlocked)) (now (b .readers)) (now (b .writers)) (now (b .certified)) (now (b .request))) (b .kind) (b .rank) (b .object) (ap (between 1 6) (c .match .keys3))
+returns-5 c = c .finish .ensures
 
 returns-6 : tie.Need-returns-6
 returns-6 c =
+    let b = c .before .args in
+    λ ps. L.perform-unknown (stateOf (b .counts) ps (now (b .may-read)) (now (b .may-write)) (now (b .active)) (now (b .unlocked)) (now (b .readers)) (now (b .writers)) (now (b .certified)) (now (b .request))) (b .kind) (b .rank) (b .object) (ap (between 1 7) (c .match .keys4))
+
+returns-7 : tie.Need-returns-7
+returns-7 c =
     let b = c .before .before .before .args in
-    λ ps. L.perform-unknown (stateOf (b .counts) ps (now (b .may-read)) (now (b .may-write)) (now (b .active)) (now (b .unlocked)) (now (b .readers)) (now (b .writers)) (now (b .certified)) (now (b .request))) (b .kind) (b .rank) (b .object) (beyond (b .kind) (c .if2 .left))
+    λ ps. L.perform-unknown (stateOf (b .counts) ps (now (b .may-read)) (now (b .may-write)) (now (b .active)) (now (b .unlocked)) (now (b .readers)) (now (b .writers)) (now (b .certified)) (now (b .request))) (b .kind) (b .rank) (b .object) (beyond (b .kind) (omega (arith, c .if2 .left, c .before .before .match .rest)))
 
 pub perform-spec : {M : Type 1} → statement M
 perform-spec =
@@ -63,6 +71,7 @@ perform-spec =
     (tie.spec
     start-requires
     unlock-requires
+    certify-requires
     lock-requires
     finish-requires
     returns
@@ -70,4 +79,5 @@ perform-spec =
     returns-3
     returns-4
     returns-5
-    returns-6)
+    returns-6
+    returns-7)

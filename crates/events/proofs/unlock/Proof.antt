@@ -31,10 +31,10 @@ numbers c e =
 
 -- what the number says where it is none
 accepted : (c : tie.Start) (n : ℕ)
-    → ((u : ℕ) (ps mr mw : List ℕ)
-    → n ≡ eventRefusal (stateOf (c .args .counts) ps mr mw (c .args .active) u (now (c .args .readers)) (now (c .args .writers)) (now (c .args .certified)) (now (c .args .request))) 4 (c .args .rank) (c .args .object))
+    → ((u : ℕ) (ps mr mw cs : List ℕ)
+    → n ≡ eventRefusal (stateOf (c .args .counts) ps mr mw (c .args .active) u (now (c .args .readers)) (now (c .args .writers)) cs (now (c .args .request))) 4 (c .args .rank) (c .args .object))
     → n ≡ 0 → (ps : List ℕ) → eventRefusal (whole c ps) 4 (c .args .rank) (c .args .object) ≡ 0
-accepted c n e z ps = sym (e (now (c .args .unlocked)) ps (now (c .args .may-read)) (now (c .args .may-write))) ∙ z
+accepted c n e z ps = sym (e (now (c .args .unlocked)) ps (now (c .args .may-read)) (now (c .args .may-write)) (now (c .args .certified))) ∙ z
 
 unlock-refusal-requires : tie.Need-unlock-refusal-requires
 unlock-refusal-requires c κs = search needs
@@ -42,23 +42,23 @@ unlock-refusal-requires c κs = search needs
 returns : tie.Need-returns
 returns c =
     let a = c .before .before .before .before .before .args in
-    λ ps. L.perform-refused (whole ((c .before .before .before .before .before)) ps) 4 (a .rank) (a .object) (c .before .unlock-refusal .result) (c .before .unlock-refusal .ensures (now (a .unlocked)) ps (now (a .may-read)) (now (a .may-write))) (c .if1 .taken)
+    λ ps. L.perform-refused (whole ((c .before .before .before .before .before)) ps) 4 (a .rank) (a .object) (c .before .unlock-refusal .result) (c .before .unlock-refusal .ensures (now (a .unlocked)) ps (now (a .may-read)) (now (a .may-write)) (now (a .certified))) (c .if1 .taken)
 
 release-requires : tie.Need-release-requires
 release-requires c κs = numbers ((c .before .before .before .before .before .before .before)) (accepted ((c .before .before .before .before .before .before .before)) (c .before .before .before .unlock-refusal .result) (c .before .before .before .unlock-refusal .ensures) (c .before .before .if1 .left) [])
 
 wake-requires : tie.Need-wake-requires
-wake-requires c κs = ((c .before .before .before .before .before .before .before .before .before .before .before .pre) .jobs-fit, (c .before .before .before .before .before .before .before .before .before .before .before .pre) .objects-fit, (c .before .before .before .before .before .before .before .before .before .before .before .pre) .requests-fit)
+wake-requires c κs = ((c .before .before .before .before .before .before .before .before .before .before .before .before .pre) .jobs-fit, (c .before .before .before .before .before .before .before .before .before .before .before .before .pre) .objects-fit, (c .before .before .before .before .before .before .before .before .before .before .before .before .pre) .requests-fit)
 
 returns-2 : tie.Need-returns-2
 unfolding release
 returns-2 c =
-    let a = c .before .before .before .before .before .before .before .before .before .before .before .before .args in
+    let a = c .before .before .before .before .before .before .before .before .before .before .before .before .before .args in
     λ ps.
-    let s = whole ((c .before .before .before .before .before .before .before .before .before .before .before .before)) ps in
+    let s = whole ((c .before .before .before .before .before .before .before .before .before .before .before .before .before)) ps in
     c .wake .ensures (a .active) _ ps
-    ∙ (λ i. E.wake (stateOf (a .counts) ps (now (a .may-read)) (now (a .may-write)) (a .active) (c .before .before .before .before .release .ensures .0 i) (c .before .before .before .before .release .ensures .1 i) (now (a .writers)) (now (a .certified)) (now (a .request))))
-    ∙ sym (L.perform-accepted s 4 (a .rank) (a .object) (accepted ((c .before .before .before .before .before .before .before .before .before .before .before .before)) (c .before .before .before .before .before .before .before .before .unlock-refusal .result) (c .before .before .before .before .before .before .before .before .unlock-refusal .ensures) (c .before .before .before .before .before .before .before .if1 .left) ps) ∙ L.accepted-unlock s 4 (a .rank) (a .object) refl)
+    ∙ (λ i. E.wake (stateOf (a .counts) ps (now (a .may-read)) (now (a .may-write)) (a .active) (c .before .before .before .before .before .release .ensures .0 i) (c .before .before .before .before .before .release .ensures .1 i) (now (a .writers)) (now (a .certified)) (now (a .request))))
+    ∙ sym (L.perform-accepted s 4 (a .rank) (a .object) (accepted ((c .before .before .before .before .before .before .before .before .before .before .before .before .before)) (c .before .before .before .before .before .before .before .before .before .unlock-refusal .result) (c .before .before .before .before .before .before .before .before .before .unlock-refusal .ensures) (c .before .before .before .before .before .before .before .before .if1 .left) ps) ∙ L.accepted-unlock s 4 (a .rank) (a .object) refl)
 
 pub unlock-spec : {M : Type 1} → statement M
 unlock-spec =

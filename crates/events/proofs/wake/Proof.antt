@@ -23,9 +23,9 @@ pub record Found (request : ℕ) (rank : ℕ) : Type 0 where
   pub last : rank ≤ mostJobs
   pub object : (1 ≤ objectOfRequest request) × (objectOfRequest request ≤ mostObjects)
 
-found : (c : tie.Then1) → let a = c .before .before .before .before .before .args in Found (at (now (a .request)) (c .before .wakeable .result)) (c .before .wakeable .result)
+found : (c : tie.Then1) → let a = c .before .before .before .before .before .before .args in Found (at (now (a .request)) (c .before .wakeable .result)) (c .before .wakeable .result)
 found c =
-    let t = c .before .before .before .before .before in
+    let t = c .before .before .before .before .before .before in
     let a = t .args in
     let s = waitsState (a .counts) (now (a .may-read)) (now (a .may-write)) (now (a .readers)) (now (a .writers)) (now (a .certified)) (now (a .request)) in
     let e = c .before .wakeable .ensures in
@@ -35,9 +35,9 @@ found c =
     record { first = low; last = high; object = t .pre .2 (c .before .wakeable .result) low high (λ z. w .1 (ap (at (now (a .request))) (sym e) ∙ z)) }
 
 -- the request that is read is the rank's
-asked : (c : tie.Then1) → let a = c .before .before .before .before .before .args in
+asked : (c : tie.Then1) → let a = c .before .before .before .before .before .before .args in
     getD (now (a .request)) (c .before .wakeable .result - 1) 0 ≡ at (now (a .request)) (c .before .wakeable .result)
-asked c = sym (at-index (now (c .before .before .before .before .before .args .request)) (c .before .wakeable .result) (found c .first))
+asked c = sym (at-index (now (c .before .before .before .before .before .before .args .request)) (c .before .wakeable .result) (found c .first))
 
 wakeable-requires : tie.Need-wakeable-requires
 wakeable-requires c κs = search needs
@@ -62,26 +62,26 @@ object-of-request-requires c κs = search needs
 
 grant-requires : tie.Need-grant-requires
 grant-requires c κs =
-    let f = found ((c .before .before .before .before .before .before)) in
-    let e = c .object-of-request .ensures ∙ ap objectOfRequest (asked ((c .before .before .before .before .before .before))) in
+    let f = found (c .before .before .before .before .before .before .before) in
+    let e = c .object-of-request .ensures ∙ ap objectOfRequest (asked (c .before .before .before .before .before .before .before)) in
     (f .first, f .last, subst (λ (o : ℕ). 1 ≤ o) (sym e) (f .object .0), subst (λ (o : ℕ). o ≤ mostObjects) (sym e) (f .object .1))
 
 returns : tie.Need-returns
 unfolding grant
 returns c =
-    let b = c .before .before .before .before .before .before .before .before .before .before .before .before .args in
-    let r = c .before .before .before .before .before .before .before .before .wakeable .result in
-    let m = c .before .before .mode-of-request .ensures ∙ ap modeOfRequest (asked ((c .before .before .before .before .before .before .before))) in
-    let o = c .before .object-of-request .ensures ∙ ap objectOfRequest (asked ((c .before .before .before .before .before .before .before))) in
+    let b = c .before .before .before .before .before .before .before .before .before .before .before .before .before .before .args in
+    let r = c .before .before .before .before .before .before .before .before .before .wakeable .result in
+    let m = c .before .before .mode-of-request .ensures ∙ ap modeOfRequest (asked (c .before .before .before .before .before .before .before .before)) in
+    let o = c .before .object-of-request .ensures ∙ ap objectOfRequest (asked (c .before .before .before .before .before .before .before .before)) in
     λ a u ps.
     let s = stateOf (b .counts) ps (now (b .may-read)) (now (b .may-write)) a u (now (b .readers)) (now (b .writers)) (now (b .certified)) (now (b .request)) in
-    (λ i. outcome (Done r) (stateOf (b .counts) ps (now (b .may-read)) (now (b .may-write)) a u (c .grant .ensures .0 i) (c .grant .ensures .1 i) (c .grant .ensures .2 i)))
+    (λ i. outcome (Done r) (stateOf (b .counts) ps (now (b .may-read)) (now (b .may-write)) a u (c .grant .ensures .0 i) (c .grant .ensures .1 i) (c .grant .ensures .2 i) (c .grant .ensures .3 i)))
     ∙ (λ i. outcome (Done r) (grant s (m i) r (o i)))
-    ∙ sym (L.woken-some s r (c .before .before .before .before .before .before .before .before .wakeable .ensures ∙ sym (wakeable-parts s)) (c .before .before .before .before .before .before .before .if1 .taken))
+    ∙ sym (L.woken-some s r (c .before .before .before .before .before .before .before .before .before .wakeable .ensures ∙ sym (wakeable-parts s)) (c .before .before .before .before .before .before .before .before .if1 .taken))
 
 returns-2 : tie.Need-returns-2
 returns-2 c =
-    let b = c .before .before .before .before .before .args in
+    let b = c .before .before .before .before .before .before .args in
     λ a u ps.
     let s = stateOf (b .counts) ps (now (b .may-read)) (now (b .may-write)) a u (now (b .readers)) (now (b .writers)) (now (b .certified)) (now (b .request)) in
     ap (λ (r : ℕ). outcome (Done r) s) (c .if1 .left)
