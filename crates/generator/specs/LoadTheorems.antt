@@ -20,7 +20,7 @@ use Rattle.state.specs.WellFormed.{wellFormed}
 use Rattle.state.specs.Clauses.{Within, clauses, counts-within}
 use Rattle.decimals.specs.Laid.{atFront, front-more, front-length}
 use Rattle.refusals.specs.Refusals.{objectAllowed, refusal}
-use Rattle.refusals.specs.EventBytes.{bytes-not-refused}
+use Rattle.refusals.specs.EventBytes.{kind-of-both, bytes-not-refused}
 use Rattle.generator.specs.declared.Made.{Made}
 use Rattle.generator.specs.Load.{step, drawn, kindFrom, rankFrom, objectFrom, eventFrom, seedAfter, load, loadRefusal, makeEvents, eventsMade}
 use Rattle.generator.specs.LoadLaws.{load-length, seed-join, load-join, load-at, refused-by-8, made}
@@ -116,7 +116,7 @@ module _ (t : State) (w : Within (t .counts)) (first second third : ℕ) where
       go (suc (suc (suc (suc (suc (suc x)))))) h = absurd (omega arith)
 
   passes : (v : ℕ) → 9 ≤ v → v ≤ 11 → refusal t kind rank object ≢ v
-  passes v low high = bytes-not-refused t kind rank object v (inside-between 1 6 kind (kind-in .0) (kind-in .1)) rank-in object-in low high
+  passes v low high = bytes-not-refused t kind rank object v (kind-of-both (t .counts .version) kind (inside-between 1 6 kind (kind-in .0) (kind-in .1))) rank-in object-in low high
 
 module _ (s : State) (seed count i : ℕ) (buffer : List ℕ) where
   -- byte j of event i in the lent buffer
@@ -171,6 +171,6 @@ module _ (s : State) (seed count i : ℕ) (buffer : List ℕ) where
 
 -- ---- four events for 4 jobs and 3 objects from seed 7, and the seed left over
 
-pub example-load : (load (countsOf 2 4 3) 4 7 ≡ 2 ∷ 2 ∷ 1 ∷ 4 ∷ 1 ∷ 1 ∷ 3 ∷ 2 ∷ 3 ∷ 6 ∷ 2 ∷ 0 ∷ []) × (seedAfter 4 7 ≡ 2281704755)
+pub example-load : (load (countsOf 1 2 4 3) 4 7 ≡ 2 ∷ 2 ∷ 1 ∷ 4 ∷ 1 ∷ 1 ∷ 3 ∷ 2 ∷ 3 ∷ 6 ∷ 2 ∷ 0 ∷ []) × (seedAfter 4 7 ≡ 2281704755)
 unfolding step eventFrom seedAfter load
 example-load = (refl, refl)

@@ -4,20 +4,21 @@ use Prim.Native.Nat.{ℕ, _≤_}
 use mathlib.Core.Path.{_≡_}
 use mathlib.Core.List.{List, [], _∷_, map}
 use lib.ListN.{length}
-use Rattle.basics.specs.Choice.{if_then_else_, between}
+use Rattle.basics.specs.Choice.{if_then_else_}
 use Rattle.basics.specs.Arrays.{at}
 use Rattle.state.specs.declared.Counts.{Counts}
 use Rattle.decimals.specs.Decimal.{decimal}
 use Rattle.decimals.specs.Fields.{line}
 use Rattle.decimals.specs.Laid.{atFront}
+use Rattle.refusals.specs.Refusals.{isKind}
 use Rattle.events.specs.declared.Answer.{Answer}
 use Rattle.events.specs.Answers.{Paper, paper}
 
 -- ---- letters
 
--- "kind letter (S R W U F A, `?` for others)"
-abbrev pub kindLetter : ℕ → ℕ
-kindLetter k = if between 1 6 k then at (83 ∷ 82 ∷ 87 ∷ 85 ∷ 70 ∷ 65 ∷ []) k else 63
+-- "kind letter (S R W U F A, `?` for others)"; 02, CR 6: of event 7 "the bench letter is C, on version 1 still `?`"
+abbrev pub kindLetter : (version kind : ℕ) → ℕ
+kindLetter version k = if isKind version k then at (83 ∷ 82 ∷ 87 ∷ 85 ∷ 70 ∷ 65 ∷ 67 ∷ []) k else 63
 
 -- "then G, W holder object reason, D woken, or X refusal": G W D X by the answer's number among the four
 abbrev pub answerLetter : ℕ → ℕ
@@ -28,14 +29,14 @@ answerFields p = (answerLetter (p .number) ∷ []) ∷ map decimal (p .values)
 
 -- ---- the lines
 
--- "Line 1 gives mark, version, jobs, processors, objects.": `JOB`, 1 and the three counts
+-- "Line 1 gives mark, version, jobs, processors, objects.": `JOB`, the version and the three counts
 unfoldable pub headerLine : Counts → List ℕ
-headerLine c = line (74 ∷ 79 ∷ 66 ∷ []) (decimal 1 ∷ decimal (c .jobs) ∷ decimal (c .processors) ∷ decimal (c .objects) ∷ [])
+headerLine c = line (74 ∷ 79 ∷ 66 ∷ []) (decimal (c .version) ∷ decimal (c .jobs) ∷ decimal (c .processors) ∷ decimal (c .objects) ∷ [])
 
 -- "Each event's line has its number, kind letter .., rank, object, then" the answer
-unfoldable pub eventLine : (number kind rank object : ℕ) → Answer → List ℕ
-eventLine number kind rank object answer =
-    line (decimal number) ((kindLetter kind ∷ []) ∷ decimal rank ∷ decimal object ∷ answerFields (paper answer))
+unfoldable pub eventLine : (version number kind rank object : ℕ) → Answer → List ℕ
+eventLine version number kind rank object answer =
+    line (decimal number) ((kindLetter version kind ∷ []) ∷ decimal rank ∷ decimal object ∷ answerFields (paper answer))
 
 -- "The last line is `end` and the event count"
 unfoldable pub endLine : (events : ℕ) → List ℕ

@@ -25,9 +25,9 @@ pub fn lay_field(buf: &mut [u8], at: usize, number: u8) -> usize
     lay_byte_number(buf, end, number)
 }
 
-// The letter of an event's kind.
-pub fn kind_letter(kind: u8) -> u8
-    ensures { λ r. ⌜ r ≡ kindLetter kind ⌝ }
+// The letter of an event's kind, on a table of this version.
+pub fn kind_letter(version: u8, kind: u8) -> u8
+    ensures { λ r. ⌜ r ≡ kindLetter version kind ⌝ }
 {
     match kind {
         1 => b'S',
@@ -36,7 +36,14 @@ pub fn kind_letter(kind: u8) -> u8
         4 => b'U',
         5 => b'F',
         6 => b'A',
-        0 | 7..=255 => b'?',
+        7 => {
+            if version == 1 {
+                b'?'
+            } else {
+                b'C'
+            }
+        }
+        0 | 8..=255 => b'?',
     }
 }
 
@@ -84,6 +91,7 @@ pub fn lay_last(buf: &mut [u8], at: usize, number: u8) -> usize
 pub fn lay_event(
     buf: &mut [u8],
     at: usize,
+    version: u8,
     number: u64,
     kind: u8,
     rank: u8,
@@ -91,10 +99,10 @@ pub fn lay_event(
     answer: Answer,
 ) -> usize
     requires { ⌜ at + 45 ≤ length (now buf) ⌝ }
-    ensures { λ r. ⌜ Laid (now (buf .entry)) (now (buf .exit)) at r 45 (eventLine number kind rank object answer) ⌝ }
+    ensures { λ r. ⌜ Laid (now (buf .entry)) (now (buf .exit)) at r 45 (eventLine version number kind rank object answer) ⌝ }
 {
     let of = lay_number(buf, at, number);
-    let by = lay_letter(buf, of, kind_letter(kind));
+    let by = lay_letter(buf, of, kind_letter(version, kind));
     let on = lay_field(buf, by, rank);
     let then = lay_field(buf, on, object);
     lay_answer(buf, then, answer)
@@ -106,7 +114,7 @@ pub fn lay_header(buf: &mut [u8], counts: Counts) -> usize
     ensures { λ r. ⌜ Laid (now (buf .entry)) (now (buf .exit)) 0 r 20 (headerLine counts) ⌝ }
 {
     let mark = lay_three(buf, 0, b'J', b'O', b'B');
-    let version = lay_field(buf, mark, 1);
+    let version = lay_field(buf, mark, counts.version);
     let end = lay_field(buf, version, counts.jobs);
     let next = lay_field(buf, end, counts.processors);
     lay_last(buf, next, counts.objects)

@@ -21,18 +21,19 @@ pub fn header_line(buf: &mut LineBuffer, counts: Counts) -> usize
     lay_header(buf, counts)
 }
 
-// The line of the event with this number, which got this answer.
+// The line of the event with this number, which got this answer on a table of this version.
 pub fn event_line(
     buf: &mut LineBuffer,
+    version: u8,
     number: u64,
     kind: u8,
     rank: u8,
     object: u8,
     answer: Answer,
 ) -> usize
-    ensures { λ r. ⌜ LineLaid (eventLine number kind rank object answer) (now (buf .entry)) (now (buf .exit)) r ⌝ }
+    ensures { λ r. ⌜ LineLaid (eventLine version number kind rank object answer) (now (buf .entry)) (now (buf .exit)) r ⌝ }
 {
-    lay_event(buf, 0, number, kind, rank, object, answer)
+    lay_event(buf, 0, version, number, kind, rank, object, answer)
 }
 
 // The last line: the event count.

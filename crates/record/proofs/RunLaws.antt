@@ -54,10 +54,10 @@ module _ (bytes : List ℕ) (well : Bool) (s₀ s : State) (n₀ n : ℕ) (buf�
   object = getD bytes (place + 2) 0
 
   pub run-turn : (s′ : State) (buf′ : List ℕ) (end′ : ℕ) → s′ ≡ step s kind rank object .state
-      → Laid buf buf′ end end′ 45 (eventLine (n + 1) kind rank object (step s kind rank object .answer))
+      → Laid buf buf′ end end′ 45 (eventLine (s .counts .version) (n + 1) kind rank object (step s kind rank object .answer))
       → Run bytes well s₀ s′ n₀ (n + 1) buf₀ buf′ (place + 3) end′
   run-turn s′ buf′ end′ e l =
-      let line : List ℕ = eventLine (n + 1) kind rank object (step s kind rank object .answer) in
+      let line : List ℕ = eventLine (s .counts .version) (n + 1) kind rank object (step s kind rank object .answer) in
       let rest : List ℕ = drop (place + 3) bytes in
       let p = r .inside in
       let q = r .numbers in
@@ -71,7 +71,7 @@ module _ (bytes : List ℕ) (well : Bool) (s₀ s : State) (n₀ n : ℕ) (buf�
             r .lines
             ∙ ap (λ (k : List ℕ). r .text ++ eventLines s n k) (drop-three bytes place h)
             ∙ ap (λ (k : List ℕ). r .text ++ k) (event-lines-more s n kind rank object rest
-            ∙ ap₂ (λ (m : ℕ) (t : State). eventLine m kind rank object (step s kind rank object .answer) ++ eventLines t m rest) (sym (add-one n)) (sym e))
+            ∙ ap₂ (λ (m : ℕ) (t : State). eventLine (s .counts .version) m kind rank object (step s kind rank object .answer) ++ eventLines t m rest) (sym (add-one n)) (sym e))
             ∙ sym (append-assoc (r .text) line (eventLines s′ (n + 1) rest));
         after =
             r .after ∙ ap (stateAfter s) (drop-three bytes place h) ∙ state-after-more s kind rank object rest ∙ ap (λ (t : State). stateAfter t rest) (sym e);

@@ -7,16 +7,16 @@ use lib.Count.{trailingZeros, ones}
 use Rattle.basics.specs.Loops.{every, least, firstNonzero}
 use Rattle.basics.specs.Arrays.{mapped}
 use Rattle.ranks.specs.Ranks.{member, with, without, first}
-use Rattle.state.specs.State.{activate, await, grant, release, endRun}
+use Rattle.state.specs.State.{activate, await, grant, release, keptIn, dropMarks, endRun}
 use Rattle.state.specs.WellFormed.{processorsFit, declarationsFit, aboveIdle, locksFit, oneLockEach}
-use Rattle.state.specs.WellFormed.{writersAlone, waitsFit, marksFit, wellFormed}
+use Rattle.state.specs.WellFormed.{writersAlone, waitsFit, marksFit, certifiesFit, wellFormed}
 use Rattle.table_bytes.specs.Refusals.{headerRefusal, lengthRefusal, processorByteRefusal, entryRefusal, entriesRefusal, tableRefusal}
 use Rattle.table.specs.Example.{example}
 use Rattle.table.specs.Reading.{processorsOf, withRight, declaredIn, tableState, readTable}
 use Rattle.weights.specs.Weights.{weight}
 use Rattle.weights.specs.Keys.{othersKey, objectKey, lowestKeyBy}
 use Rattle.rule.specs.Granting.{namedKey, reason, wakeable}
-use Rattle.refusals.specs.Refusals.{eventRefusal, refusal}
+use Rattle.refusals.specs.Refusals.{allCertified, eventRefusal, refusal}
 use Rattle.events.specs.Events.{requestMeeting, woken, wake, accepted}
 use Rattle.manager.specs.Step.{step}
 use Rattle.decimals.specs.Decimal.{decimalWithin, decimal}
@@ -63,7 +63,7 @@ pub example-record : recordOf (example ++ exampleEvents) ≡ exampleRecord
 unfolding recordOf eventLines decimalWithin decimal headerLine eventLine endLine shortLine refusedLine
     every least firstNonzero mapped member with without first trailingZeros ones
     activate await grant release endRun
-    processorsFit declarationsFit aboveIdle locksFit oneLockEach writersAlone waitsFit marksFit wellFormed
+    processorsFit declarationsFit aboveIdle locksFit oneLockEach writersAlone waitsFit marksFit certifiesFit wellFormed keptIn dropMarks allCertified
     headerRefusal lengthRefusal processorByteRefusal entryRefusal entriesRefusal tableRefusal
     processorsOf withRight declaredIn tableState readTable
     weight othersKey objectKey lowestKeyBy namedKey reason wakeable

@@ -17,7 +17,7 @@ eventLines s n [] = []
 eventLines s n (a ∷ []) = []
 eventLines s n (a ∷ b ∷ []) = []
 eventLines s n (kind ∷ rank ∷ object ∷ bytes) =
-    eventLine (suc n) kind rank object (step s kind rank object .answer) ++ eventLines (step s kind rank object .state) (suc n) bytes
+    eventLine (s .counts .version) (suc n) kind rank object (step s kind rank object .answer) ++ eventLines (step s kind rank object .state) (suc n) bytes
 
 -- "The last line is `end` and the event count, or `short` if one or two bytes are left over", behind so many bytes of events
 abbrev pub lastLine : ℕ → List ℕ

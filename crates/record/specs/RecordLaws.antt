@@ -21,7 +21,7 @@ use Rattle.record.specs.Record.{eventLines}
 -- ---- an event, and what it leaves
 
 pub event-lines-more : (s : State) (n kind rank object : ℕ) (bytes : List ℕ) → eventLines s n (kind ∷ rank ∷ object ∷ bytes)
-    ≡ eventLine (suc n) kind rank object (step s kind rank object .answer) ++ eventLines (step s kind rank object .state) (suc n) bytes
+    ≡ eventLine (s .counts .version) (suc n) kind rank object (step s kind rank object .answer) ++ eventLines (step s kind rank object .state) (suc n) bytes
 unfolding eventLines
 event-lines-more s n kind rank object bytes = refl
 
@@ -45,7 +45,7 @@ event-lines-join (suc k) s n (a ∷ []) ys h = absurd (omega arith)
 event-lines-join (suc k) s n (a ∷ b ∷ []) ys h = absurd (omega arith)
 event-lines-join (suc k) s n (a ∷ b ∷ c ∷ xs) ys h =
     let next : State = step s a b c .state in
-    let line : List ℕ = eventLine (suc n) a b c (step s a b c .answer) in
+    let line : List ℕ = eventLine (s .counts .version) (suc n) a b c (step s a b c .answer) in
     let count : suc n + k ≡ n + suc k = omega arith in
     ap (λ (l : List ℕ). line ++ l) (event-lines-join k next (suc n) xs ys (omega arith))
     ∙ ap (λ (m : ℕ). line ++ (eventLines next (suc n) xs ++ eventLines (stateAfter next xs) m ys)) count

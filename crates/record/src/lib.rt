@@ -44,7 +44,7 @@ fn lay_answered<'a>(
     requires { ⌜ (well ≡ wellFormed (stateOf counts (now «processor_of») (now «may_read») (now «may_write») (now active) (now unlocked) (now readers) (now writers) (now certified) (now request))) × (at + 45 ≤ length (now buf)) ⌝ }
     ensures { λ r. ⌜ (stateOf counts (now («processor_of» .entry)) (now («may_read» .entry)) (now («may_write» .entry)) (now (active .exit)) (now (unlocked .exit)) (now (readers .exit)) (now (writers .exit)) (now (certified .exit)) (now (request .exit))
         ≡ step (stateOf counts (now («processor_of» .entry)) (now («may_read» .entry)) (now («may_write» .entry)) (now (active .entry)) (now (unlocked .entry)) (now (readers .entry)) (now (writers .entry)) (now (certified .entry)) (now (request .entry))) kind rank object .state)
-        × Laid (now (buf .entry)) (now (buf .exit)) at r 45 (eventLine number kind rank object
+        × Laid (now (buf .entry)) (now (buf .exit)) at r 45 (eventLine (counts .version) number kind rank object
         (step (stateOf counts (now («processor_of» .entry)) (now («may_read» .entry)) (now («may_write» .entry)) (now (active .entry)) (now (unlocked .entry)) (now (readers .entry)) (now (writers .entry)) (now (certified .entry)) (now (request .entry))) kind rank object .answer)) ⌝ }
 {
     let answer = act_known(
@@ -63,7 +63,7 @@ fn lay_answered<'a>(
         rank,
         object,
     );
-    lay_event(buf, at, number, kind, rank, object, answer)
+    lay_event(buf, at, counts.version, number, kind, rank, object, answer)
 }
 
 // The same, for all events in the bytes, with so many before them; one or two bytes left over are not looked at.

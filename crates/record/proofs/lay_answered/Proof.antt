@@ -20,11 +20,11 @@ same-length c = search needs
 
 returns : tie.Need-returns
 returns c =
-    let a = c .before .before .before .before .before .before .before .before .before .before .before .args in
+    let a = c .before .before .before .before .before .before .before .before .before .before .before .before .args in
     let answered = c .before .before .before .before .act-known .ensures in (
       ap (λ (o : Outcome). o .state) answered,
       laid-is (c .before .before .lay-event .ensures)
-          (ap (λ (o : Outcome). eventLine (a .number) (a .kind) (a .rank) (a .object) (o .answer)) answered) (le-refl 45),
+          (ap (λ (o : Outcome). eventLine (a .counts .version) (a .number) (a .kind) (a .rank) (a .object) (o .answer)) answered) (le-refl 45),
     )
 
 pub lay-answered-spec : {M : Type 1} → statement M
