@@ -23,7 +23,7 @@ same-length c = search needs
 returns : tie.Need-returns
 returns c =
     let e = ap writtenReply (sym (c .before .answer .given .1)) ∙ c .before .before .before .before .before .write-table .ensures .0 in
-    (ap (λ (a : Reply). a .refusal) e, (c .before .before .before .before .before .write-table .ensures .1, ap (λ (a : Reply). value a 0 (now (c .before .before .before .before .before .before .before .before .before .before .before .before .before .before .args .length))) e))
+    (ap (λ (a : Reply). a .refusal) e, (c .before .before .before .before .before .write-table .ensures .1, ap (λ (a : Reply). value a 0 (now (c .before .before .before .before .before .before .before .before .before .before .before .before .before .before .before .args .length))) e))
 
 same-length-2 : tie.Need-same-length-2
 same-length-2 c = search needs
@@ -31,7 +31,7 @@ same-length-2 c = search needs
 returns-2 : tie.Need-returns-2
 returns-2 c =
     let e = ap writtenReply (sym (c .before .answer2 .given .1)) ∙ c .before .before .before .before .before .write-table .ensures .0 in
-    (ap (λ (a : Reply). a .refusal) e, (c .before .before .before .before .before .write-table .ensures .1, ap (λ (a : Reply). value a 0 (now (c .before .before .before .before .before .before .before .before .before .before .before .before .before .before .args .length))) e))
+    (ap (λ (a : Reply). a .refusal) e, (c .before .before .before .before .before .write-table .ensures .1, ap (λ (a : Reply). value a 0 (now (c .before .before .before .before .before .before .before .before .before .before .before .before .before .before .before .args .length))) e))
 
 pub vongselik-parts-write-table-spec : {M : Type 1} → statement M
 vongselik-parts-write-table-spec =
