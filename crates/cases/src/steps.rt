@@ -14,7 +14,7 @@ use page::PageAnswer;
 use state::State;
 use table_writer::Written;
 
-// The kind of event that the letter stands for: S R W U F A, and 7 for others.
+// The kind of event that the letter stands for: S R W U F A C, and 10 for others.
 fn kind_of(letter: u8) -> u8 {
     match letter {
         b'S' => 1,
@@ -23,7 +23,8 @@ fn kind_of(letter: u8) -> u8 {
         b'U' => 4,
         b'F' => 5,
         b'A' => 6,
-        _ => 7,
+        b'C' => 7,
+        _ => 10,
     }
 }
 
@@ -120,25 +121,28 @@ fn ask(state: State, letter: u8, rank: u8, object: u8) {
     }
 }
 
-// h: writes who holds object 1 to read it, and who to write it.
+// h: writes who holds object 1 to read it, who to write it, and whether it is certified.
 fn show_holders(state: State) {
     io::write_all(1, b" readers");
     say_ranks(state.readers[0]);
     io::write_all(1, b", writers");
     say_ranks(state.writers[0]);
-}
-
-// The request of a job that waits for the object: q to read it, else to write it.
-fn request_of(letter: u8, object: u8) -> u16 {
-    if letter == b'q' {
-        256 + object as u16
-    } else {
-        512 + object as u16
+    if state::is_marked(&state.certified, 1) {
+        io::write_all(1, b", certified");
     }
 }
 
-// A change: + makes the job active, r gives it a read lock on the object, q and v have it wait to read and to write the object.
-fn change(state: State, letter: u8, rank: u8, object: u8) -> State {
+// The request of a job that waits for the object: q to read it, v to write it, else to certify it.
+fn request_of(letter: u8, object: u8) -> u16 {
+    match letter {
+        b'q' => 256 + object as u16,
+        b'v' => 512 + object as u16,
+        _ => 768 + object as u16,
+    }
+}
+
+// A change of a job: + makes it active, r and w give it a read lock and a write lock on the object, q, v and m have it wait to read, write and certify it.
+fn change_job(state: State, letter: u8, rank: u8, object: u8) -> State {
     let mut next = state;
     if rank == 0 {
         return next;
@@ -157,11 +161,32 @@ fn change(state: State, letter: u8, rank: u8, object: u8) -> State {
         return next;
     }
     let i = (object - 1) as usize;
-    if letter == b'r' {
-        next.readers[i] = ranks::with(next.readers[i], rank);
-    } else {
-        next.request[(rank - 1) as usize] = request_of(letter, object);
+    match letter {
+        b'r' => next.readers[i] = ranks::with(next.readers[i], rank),
+        b'w' => next.writers[i] = ranks::with(next.writers[i], rank),
+        _ => next.request[(rank - 1) as usize] = request_of(letter, object),
     }
+    next
+}
+
+// A change of the state: k certifies the object, e makes the version so much.
+fn change_state(state: State, letter: u8, version: u8, object: u8) -> State {
+    let mut next = state;
+    if letter == b'e' {
+        let mut counts = next.counts;
+        counts.version = version;
+        next.counts = counts;
+        return next;
+    }
+    if object == 0 {
+        return next;
+    }
+    if object > 128 {
+        return next;
+    }
+    let i = object - 1;
+    let word = (i / 64) as usize;
+    next.certified[word] = ranks::with(next.certified[word], i % 64 + 1);
     next
 }
 
@@ -181,7 +206,8 @@ fn run_step(bytes: &[u8], state: State, letter: u8, rank: u8, object: u8) -> Sta
         b'G' => make_events(state, rank, object),
         b'h' => show_holders(state),
         b'n' | b'i' | b'p' | b'c' => ask(state, letter, rank, object),
-        b'+' | b'r' | b'q' | b'v' => return change(state, letter, rank, object),
+        b'+' | b'r' | b'w' | b'q' | b'v' | b'm' => return change_job(state, letter, rank, object),
+        b'k' | b'e' => return change_state(state, letter, rank, object),
         _ => return play(state, letter, rank, object),
     }
     state
