@@ -6,7 +6,7 @@
  *
  * A table is of version 1 or 2. With version 2 each object has a copy that readers see and one that its writer works on, so that a write lock may stand
  * beside the read locks of others. Before its run can finish, a job turns each of its write locks into a certify lock, which stands alone: under it the
- * job's copy takes the place of the one that readers see.
+ * job's copy takes the place of the one that readers see. After an unlock a job can certify no more: with a write lock left, its run can only be abandoned.
  *
  * Every call may be given any contents of the struct, any bytes and any numbers: it answers, or refuses by a number from 1 to 25 (below).
  * A call that refuses leaves every byte that was lent to it as it was; an event that is refused in a list of events leaves the state as it was, and has its

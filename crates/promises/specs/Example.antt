@@ -1,5 +1,5 @@
 -- The example of 01 ("The bench record"), in one table under one theorem: its twelve answers, and the three questions asked on the way. Then the ceilings
--- of an object there that nobody writes.
+-- of an object there that nobody writes. Last an example of version 2 (02, CR 6), in the same way: twelve answers, and one question.
 -- Assumes nothing.
 use Prim.Native.Nat.{ℕ}
 use mathlib.Core.Path.{_≡_, refl}
@@ -9,9 +9,9 @@ use Rattle.basics.specs.Loops.{every, least, firstNonzero}
 use Rattle.basics.specs.Arrays.{mapped}
 use Rattle.ranks.specs.Ranks.{member, with, without, first}
 use Rattle.state.specs.declared.State.{State}
-use Rattle.state.specs.State.{activate, await, grant, release, endRun}
+use Rattle.state.specs.State.{mark, keptIn, dropMarks, activate, await, grant, release, endRun}
 use Rattle.state.specs.WellFormed.{processorsFit, declarationsFit, aboveIdle, locksFit, oneLockEach}
-use Rattle.state.specs.WellFormed.{writersAlone, waitsFit, marksFit, wellFormed}
+use Rattle.state.specs.WellFormed.{writersAlone, waitsFit, marksFit, certifiesFit, wellFormed}
 use Rattle.table_bytes.specs.Refusals.{headerRefusal, lengthRefusal, processorByteRefusal, entryRefusal, entriesRefusal, tableRefusal}
 use Rattle.table.specs.Example.{example}
 use Rattle.table.specs.Reading.{processorsOf, withRight, declaredIn, tableState, readTable}
@@ -24,7 +24,7 @@ use Rattle.questions.specs.declared.RankAnswer.{RankAnswer}
 use Rattle.questions.specs.declared.RankAnswer.the-variants.{Rank}
 use Rattle.questions.specs.declared.CeilingsAnswer.the-variants.{Ceilings}
 use Rattle.events.specs.Answers.{Paper, paper}
-use Rattle.refusals.specs.Refusals.{eventRefusal, refusal, jobRefusal, objectRefusal, processorRefusal}
+use Rattle.refusals.specs.Refusals.{allCertified, eventRefusal, refusal, jobRefusal, objectRefusal, processorRefusal}
 use Rattle.events.specs.Events.{requestMeeting, woken, wake, accepted}
 use Rattle.manager.specs.Step.{step}
 use Rattle.questions.specs.Questions.{askInheritedRank, askCeilings, askRunning}
@@ -39,6 +39,9 @@ waits holder object reason = record { number = 2; values = holder ∷ object ∷
 
 abbrev pub done : (woken : ℕ) → Paper
 done woken = record { number = 3; values = woken ∷ [] }
+
+abbrev pub refused : (n : ℕ) → Paper
+refused n = record { number = 4; values = n ∷ [] }
 
 -- ---- a line: an event with its answer, a question for a job's inherited rank, or one for the rank that a processor runs
 pub data Line : Type 0 where
@@ -78,19 +81,56 @@ exampleLines =
 pub example-answers : (readTable example .refusal ≡ 0) × (replay (readTable example .state) exampleLines ≡ exampleLines)
 unfolding exampleLines replay
     every least firstNonzero mapped member with without first trailingZeros ones
-    activate await grant release endRun
-    processorsFit declarationsFit aboveIdle locksFit oneLockEach writersAlone waitsFit marksFit wellFormed
+    mark keptIn dropMarks activate await grant release endRun
+    processorsFit declarationsFit aboveIdle locksFit oneLockEach writersAlone waitsFit marksFit certifiesFit wellFormed
     headerRefusal lengthRefusal processorByteRefusal entryRefusal entriesRefusal tableRefusal
     processorsOf withRight declaredIn tableState readTable
     weight othersKey objectKey lowestKeyBy namedKey reason wakeable R.inheritedRank runningRank
-    eventRefusal refusal jobRefusal processorRefusal requestMeeting woken wake accepted step askInheritedRank askRunning
+    allCertified eventRefusal refusal jobRefusal processorRefusal requestMeeting woken wake accepted step askInheritedRank askRunning
 example-answers = (refl, refl)
 
 -- "where four jobs give 5 for an object that nobody writes" (02, CR 4): object 2 of the same table
 pub example-ceilings : askCeilings (readTable example .state) 2 ≡ Ceilings 5 2
 unfolding every firstNonzero member with first trailingZeros ones
-    processorsFit declarationsFit aboveIdle locksFit oneLockEach writersAlone waitsFit marksFit wellFormed
+    processorsFit declarationsFit aboveIdle locksFit oneLockEach writersAlone waitsFit marksFit certifiesFit wellFormed
     headerRefusal lengthRefusal processorByteRefusal entryRefusal entriesRefusal tableRefusal
     processorsOf withRight declaredIn tableState readTable
     objectRefusal askCeilings
 example-ceilings = refl
+
+-- ---- version 2
+
+-- 1 processor; job 1 reads object 1, job 2 writes it
+abbrev pub versionsTable : List ℕ
+versionsTable = 74 ∷ 79 ∷ 66 ∷ 0 ∷ 2 ∷ 1 ∷ 2 ∷ 1 ∷ 0 ∷ 0 ∷ 0 ∷ 2 ∷ 1 ∷ 1 ∷ 1 ∷ 2 ∷ 1 ∷ 2 ∷ []
+
+-- Job 2 writes the object, and job 1 reads it beside the write lock. Job 2 can't finish with a write lock that is not certified (25). Its certify waits for
+-- the reader, and is woken by the unlock. Job 1 starts again and waits for the certify lock; after event 10 job 2 has inherited rank 1. A certify lock can't
+-- be unlocked early (21), and the finish lets the reader in.
+unfoldable pub versionsLines : List Line
+versionsLines =
+    event 1 2 0 (done 0)
+    ∷ event 3 2 1 granted
+    ∷ event 1 1 0 (done 0)
+    ∷ event 2 1 1 granted
+    ∷ event 5 2 0 (refused 25)
+    ∷ event 7 2 1 (waits 1 1 1)
+    ∷ event 4 1 1 (done 2)
+    ∷ event 5 1 0 (done 0)
+    ∷ event 1 1 0 (done 0)
+    ∷ event 2 1 1 (waits 2 1 1)
+    ∷ inherits 2 (Rank 1)
+    ∷ event 4 2 1 (refused 21)
+    ∷ event 5 2 0 (done 1)
+    ∷ []
+
+pub versions-answers : (readTable versionsTable .refusal ≡ 0) × (replay (readTable versionsTable .state) versionsLines ≡ versionsLines)
+unfolding versionsLines replay
+    every least firstNonzero mapped member with without first trailingZeros ones
+    mark keptIn dropMarks activate await grant release endRun
+    processorsFit declarationsFit aboveIdle locksFit oneLockEach writersAlone waitsFit marksFit certifiesFit wellFormed
+    headerRefusal lengthRefusal processorByteRefusal entryRefusal entriesRefusal tableRefusal
+    processorsOf withRight declaredIn tableState readTable
+    weight othersKey objectKey lowestKeyBy namedKey reason wakeable R.inheritedRank
+    allCertified eventRefusal refusal jobRefusal requestMeeting woken wake accepted step askInheritedRank
+versions-answers = (refl, refl)

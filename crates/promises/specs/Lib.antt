@@ -1,5 +1,5 @@
 -- Promises.antt states what is promised of the manager as a whole, in the terms of Terms.antt; the files between the two prove it.
--- Example.antt has the example of document 01.
+-- Example.antt has the example of document 01, and one of version 2.
 pub mod Terms
 pub mod Weights
 pub mod View
@@ -13,5 +13,7 @@ pub mod OldRule
 pub mod NobodyAs65
 pub mod Nobody
 pub mod TableStates
+pub mod Finishing
+pub mod HeldUp
 pub mod Promises
 pub mod Example

@@ -4,28 +4,28 @@
 -- Assumes nothing.
 use mathlib.Core.Path.{_≡_, refl, sym, subst, ap, ap₂, _∙_}
 use mathlib.Core.Logic.{_⊎_, inl, inr}
-use mathlib.Core.Bool.{Bool, true, false, not, _&&_, _||_}
+use mathlib.Core.Bool.{Bool, true, false, not, _&&_}
 use Prim.Native.Nat.{ℕ, zero, suc, _+_, _*_, _%_, _^_, _≤_, _<_}
 use native.Mathlib.Omega.{arith}
 use native.Mathlib.Decide.{decLt}
 use lib.Dec.{eqb, ltb}
 use borrow.Author.Tests.{ltb-true, ltb-false, lt-ltb, ne-eqb}
-use Rattle.basics.specs.Choice.{if_then_else_, _if_else_, same-test, between-true}
+use Rattle.basics.specs.Choice.{if_then_else_, _if_else_, same-test, and-left, between-true}
 use Rattle.basics.specs.Loops.{least-same, first-nonzero-same}
 use Rattle.ranks.specs.Ranks.{member}
 use Rattle.ranks.specs.RankLaws.{member-le, first-le}
-use Rattle.ranks.specs.UnionLaws.{union-lt}
+use Rattle.ranks.specs.UnionLaws.{union-right, union-lt}
 use Rattle.state.specs.declared.State.{State}
-use Rattle.state.specs.State.{mostJobs, read, write, isObject, declared, declaredAny, holders, requestOf, isWaiting, grant, await, release, endRun}
+use Rattle.state.specs.State.{mostJobs, read, write, isObject, declared, declaredAny, holders, sharesWithNone, requestOf, isWaiting, grant, await, release, endRun}
 use Rattle.state.specs.Facts.{In, Facts}
 use Rattle.state.specs.Keeping.{end-keeps}
 use Rattle.state.specs.Modes.{either-mode}
 use Rattle.state.specs.WellFormedFacts.{facts-well-formed, held-rank}
-use Rattle.weights.specs.Weights.{moreUrgent, ceilingOf, writeCeiling, absoluteCeiling, weight, oldWeight}
-use Rattle.weights.specs.WeightLaws.{ceiling-none, ceiling-least, ceiling-in, write-any}
+use Rattle.weights.specs.Weights.{moreUrgent, ceilingOf, writeCeiling, absoluteCeiling, writeWeight, weight, oldWeight}
+use Rattle.weights.specs.WeightLaws.{ceiling-none, ceiling-least, ceiling-in}
 use Rattle.weights.specs.Keys.{noKey, keyWeight, keyHolder, keyObject, Weigh, lowestKeyBy, lowestKey, oldLowestKey}
 use Rattle.weights.specs.KeyLaws.{KeyOfOther, key-at, key-above, stops-same, same-lowest-key}
-use Rattle.rule.specs.Granting.{passesBelow, passes, namedKeyOf, namedKey, reason, wakes, wakeable}
+use Rattle.rule.specs.Granting.{passesBelow, passes, namedKeyOf, namedKey, conflicts, reason, wakes, wakeable}
 use Rattle.inheritance.specs.Running as R
 use Rattle.inheritance.specs.Running.{inheritedFrom, isReady, runningRank}
 use Rattle.refusals.specs.Refusals.{refusal, jobRefusal, objectRefusal, processorRefusal}
@@ -51,9 +51,16 @@ module _ (s : State) (F : Facts s) where
   unfolding weight B.weight65
   weight-same m r o held =
       let rank = held-rank s F m r o held in
-      let low = write-any s m r r o (F .locks o .right m r held) in
-      either-mode (λ f. f (moreUrgent (writeCeiling s o) r) (absoluteCeiling s o) ≡ f (moreUrgent (B.writeCeiling65 s o) r) (B.absoluteCeiling65 s o))
-      (omega arith) (omega arith) m
+      either-mode (λ f. In (f (declared s read o) (declared s write o)) r
+      → f (moreUrgent (writeCeiling s o) r) (writeWeight s o) ≡ f (moreUrgent (B.writeCeiling65 s o) r) (B.writeWeight65 s o))
+      (λ right. omega arith) (λ right. written right (sharesWithNone s o)) m (F .locks o .right m r held)
+    where
+      written : In (declared s write o) r → (none : Bool)
+          → (if none then absoluteCeiling s o else writeCeiling s o) ≡ (if none then B.absoluteCeiling65 s o else B.writeCeiling65 s o)
+      written right true =
+          let low = ceiling-least (s .counts) (declaredAny s o) r (union-right (declared s read o) (declared s write o) r right) in
+          omega (arith, held-rank s F m r o held)
+      written right false = let low = ceiling-least (s .counts) (declared s write o) r right in omega (arith, held-rank s F m r o held)
 
   key-same : (j : ℕ) → lowestKey s j ≡ B.lowestKey65 s j
   key-same j = same-lowest-key (weight s) (B.weight65 s) s j (λ m r o l. weight-same m r o (l .held))
@@ -89,7 +96,8 @@ module _ (s : State) (F : Facts s) where
   reason-same : (m o h p : ℕ) → h ≤ s .counts .jobs → reason s m o h p ≡ B.reason65 s m o h p
   unfolding reason
   reason-same m o h p high =
-      ap (λ (b : Bool). 1 if eqb p o && (eqb m write || member (holders s write p) h) else 3 if not (member (holders s write p) h) && b else 2)
+      ap (λ (b : Bool). 1 if eqb p o && conflicts (s .counts .version) m (member (holders s write p) h) (sharesWithNone s p) else
+      3 if not (member (holders s write p) h) && b else 2)
       (cap-same h p high)
 
   -- a request that meets a lowest key
@@ -213,8 +221,9 @@ accepted-same s F (suc (suc (suc zero))) r o A = request-same s F _ r o (A .rank
 accepted-same s F (suc (suc (suc (suc zero)))) r o A = wake-same (release s r o) (release-accepted-keeps s F r o A)
 accepted-same s F (suc (suc (suc (suc (suc zero))))) r o A = wake-same (endRun s r) (end-keeps s F r (A .rank .0) (A .rank .1))
 accepted-same s F (suc (suc (suc (suc (suc (suc zero)))))) r o A = wake-same (endRun s r) (end-keeps s F r (A .rank .0) (A .rank .1))
-accepted-same s F (suc (suc (suc (suc (suc (suc (suc k))))))) r o A =
-    absurd (omega (arith, between-true 1 6 (suc (suc (suc (suc (suc (suc (suc k))))))) (A .kind)))
+accepted-same s F (suc (suc (suc (suc (suc (suc (suc zero))))))) r o A = request-same s F _ r o (A .rank .1)
+accepted-same s F (suc (suc (suc (suc (suc (suc (suc (suc k)))))))) r o A =
+    absurd (omega (arith, between-true 1 7 (suc (suc (suc (suc (suc (suc (suc (suc k)))))))) (and-left _ _ (A .kind))))
 
 pub step-same : (s : State) → Facts s → (k r o : ℕ) → step s k r o ≡ B.step65 s k r o
 unfolding step B.step65

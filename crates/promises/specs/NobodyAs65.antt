@@ -1,6 +1,6 @@
 -- The rule with 65 for nobody, as it stood before 02, CR 4 ("no longer 65"). It is there to be compared with, in Nobody.antt and in the theorems
 -- `nobody-..` of Promises.antt, and nothing else uses it. Each definition is the rule's own of the same name without 65, with the ceilings of this file;
--- what asks for no ceiling is not written again: refusals, the order of keys, what an event changes.
+-- what asks for no ceiling is not written again: refusals, the order of keys, what an event changes. It is a rule for both versions, as the rule is.
 -- Assumes nothing.
 use mathlib.Core.Bool.{Bool, _&&_}
 use Prim.Native.Nat.{ℕ, _+_, _*_, _%_}
@@ -9,7 +9,7 @@ use Rattle.basics.specs.Choice.{if_then_else_, between}
 use Rattle.basics.specs.Loops.{least, firstNonzero}
 use Rattle.ranks.specs.Ranks.{first}
 use Rattle.state.specs.declared.State.{State}
-use Rattle.state.specs.State.{mostJobs, write, ofMode, declared, declaredAny, holders, requestOf, isWaiting, await, grant, release, endRun}
+use Rattle.state.specs.State.{mostJobs, write, ofMode, declared, declaredAny, holders, sharesWithNone, requestOf, isWaiting, await, grant, release, endRun}
 use Rattle.weights.specs.Weights.{moreUrgent}
 use Rattle.weights.specs.Keys.{noKey, keyHolder, keyObject, lowestKeyBy}
 use Rattle.rule.specs.Granting.{passesBelow, namedKeyOf, reasonOf}
@@ -34,8 +34,11 @@ writeCeiling65 s o = ceiling65 (declared s write o)
 abbrev pub absoluteCeiling65 : State → ℕ → ℕ
 absoluteCeiling65 s o = ceiling65 (declaredAny s o)
 
+abbrev pub writeWeight65 : State → ℕ → ℕ
+writeWeight65 s o = if sharesWithNone s o then absoluteCeiling65 s o else writeCeiling65 s o
+
 unfoldable pub weight65 : State → ℕ → ℕ → ℕ → ℕ
-weight65 s m r o = ofMode m (moreUrgent (writeCeiling65 s o) r) (absoluteCeiling65 s o)
+weight65 s m r o = ofMode m (moreUrgent (writeCeiling65 s o) r) (writeWeight65 s o)
 
 unfoldable pub oldWeight65 : State → ℕ → ℕ → ℕ → ℕ
 oldWeight65 s m r o = ofMode m (writeCeiling65 s o) (absoluteCeiling65 s o)
@@ -55,7 +58,7 @@ abbrev pub namedKey65 : State → ℕ → ℕ
 namedKey65 s j = namedKeyOf (requestOf s j) (lowestKey65 s j) j
 
 abbrev pub reason65 : State → ℕ → ℕ → ℕ → ℕ → ℕ
-reason65 s m o h p = reasonOf m o h p (holders s write p) (writeCeiling65 s p)
+reason65 s m o h p = reasonOf (s .counts .version) m o h p (sharesWithNone s p) (holders s write p) (writeCeiling65 s p)
 
 abbrev pub wakes65 : State → ℕ → ℕ
 wakes65 s j = if isWaiting s j && passes65 s j then j else 0

@@ -1,4 +1,4 @@
--- One processor: in a state that is reached, a request of the job that the processor runs passes by both rules, or meets the same lock.
+-- One processor, version 1: in a state that is reached, a request of the job that the processor runs passes by both rules, or meets the same lock.
 -- The job that runs is the most urgent holder, or more urgent than every holder; so each lock that stops it weighs the same by both rules.
 -- Assumes nothing.
 use mathlib.Core.Path.{_≡_, refl, sym, subst, ap, _∙_}
@@ -16,7 +16,7 @@ use Rattle.state.specs.State.{mostJobs, mostObjects, processorOf, isActive, req
 use Rattle.state.specs.Facts.{Facts}
 use Rattle.state.specs.Modes.{either-mode}
 use Rattle.state.specs.WellFormedFacts.{facts-well-formed, held-rank}
-use Rattle.weights.specs.Weights.{writeCeiling, absoluteCeiling, moreUrgent, weight, oldWeight}
+use Rattle.weights.specs.Weights.{writeCeiling, absoluteCeiling, moreUrgent, writeWeight, weight, oldWeight}
 use Rattle.weights.specs.WeightLaws.{weight-small}
 use Rattle.weights.specs.Keys.{noWeight, noKey, keyWeight, keyHolder, lowestKey, oldLowestKey}
 use Rattle.weights.specs.KeyLaws.{OthersLock, key-above, stops-same}
@@ -41,20 +41,24 @@ use Rattle.promises.specs.ReachedStates.{Kept}
 
 -- ---- the two weights
 
-module _ (s : State) where
+-- which in version 1 are one for a write lock
+module _ (s : State) (first : s .counts .version ≡ 1) where
+  write-absolute : (o : ℕ) → writeWeight s o ≡ absoluteCeiling s o
+  write-absolute o = simp (eq-eqb (s .counts .version) 1 first)
+
   old-above : (m r o : ℕ) → weight s m r o ≤ oldWeight s m r o
   unfolding weight oldWeight
   old-above m r o =
-      either-mode (λ f. f (moreUrgent (writeCeiling s o) r) (absoluteCeiling s o) ≤ f (writeCeiling s o) (absoluteCeiling s o))
-      (omega arith) (omega arith) m
+      either-mode (λ f. f (moreUrgent (writeCeiling s o) r) (writeWeight s o) ≤ f (writeCeiling s o) (absoluteCeiling s o))
+      (omega arith) (omega (arith, write-absolute o)) m
 
   -- a lock of a job less urgent than j that stops j weighs the same by both
   old-same : (j m r o : ℕ) → j < r → weight s m r o ≤ j → oldWeight s m r o ≡ weight s m r o
   unfolding weight oldWeight
   old-same j m r o l =
-      either-mode (λ f. f (moreUrgent (writeCeiling s o) r) (absoluteCeiling s o) ≤ j
-      → f (writeCeiling s o) (absoluteCeiling s o) ≡ f (moreUrgent (writeCeiling s o) r) (absoluteCeiling s o))
-      (λ h. omega arith) (λ h. refl) m
+      either-mode (λ f. f (moreUrgent (writeCeiling s o) r) (writeWeight s o) ≤ j
+      → f (writeCeiling s o) (absoluteCeiling s o) ≡ f (moreUrgent (writeCeiling s o) r) (writeWeight s o))
+      (λ h. omega arith) (λ h. sym (write-absolute o)) m
 
   old-key-above : (j : ℕ) → lowestKey s j ≤ oldLowestKey s j
   old-key-above j = key-above (weight s) (oldWeight s) s j (λ m r o l. old-above m r o)
@@ -67,7 +71,7 @@ module _ (s : State) where
 
 -- ---- the job that the only processor runs
 
-module _ (s : State) (K : Kept s) (one : s .counts .processors ≡ 1) where
+module _ (s : State) (K : Kept s) (first : s .counts .version ≡ 1) (one : s .counts .processors ≡ 1) where
   abbrev F : Facts s
   F = K .facts
 
@@ -142,8 +146,8 @@ module _ (s : State) (K : Kept s) (one : s .counts .processors ≡ 1) where
   pub same-key : (j : ℕ) → 1 ≤ j → j ≤ s .counts .jobs → runningRank s 0 ≡ j
       → ((passes s j ≡ true) × (oldPasses s j ≡ true)) ⊎ (oldLowestKey s j ≡ lowestKey s j)
   same-key j low high run = elim (decLt j (keyWeight (lowestKey s j))) [
-    | yes l ↦ inl (lt-ltb j (keyWeight (lowestKey s j)) l, lt-ltb j (keyWeight (oldLowestKey s j)) (omega (arith, old-key-above s j)))
-    | no n ↦ inr (old-key-same s j (omega (arith, F .counts .jobs)) (F .counts .objects .1)
+    | yes l ↦ inl (lt-ltb j (keyWeight (lowestKey s j)) l, lt-ltb j (keyWeight (oldLowestKey s j)) (omega (arith, old-key-above s first j)))
+    | no n ↦ inr (old-key-same s first j (omega (arith, F .counts .jobs)) (F .counts .objects .1)
         (λ m r o l w. runs-above j r o low high run (l .other) (omega (arith, lock-below s m r o (l .mode) (l .held), weight-small s m r o, F .counts .jobs))) (omega arith))
   ]
 
@@ -159,13 +163,13 @@ unfolding requestMeeting
 request-same s m j o (inl p) = simp (p .0, p .1)
 request-same s m j o (inr e) = ap (requestMeeting s m j o) (sym e)
 
-pub one-request : (s : State) → Kept s → s .counts .processors ≡ 1 → (k j o : ℕ) → isRequest k ≡ true → value (rankReply (askRunning s 0)) 0 0 ≡ j
-    → paper (step s k j o .answer) .number ≢ 4 → step s k j o ≡ oldRequest s (modeOf k) j o
-one-request s K one k j o kind run ok = go (refusal s k j o) refl
+pub one-request : (s : State) → Kept s → s .counts .version ≡ 1 → s .counts .processors ≡ 1 → (k j o : ℕ) → isRequest k ≡ true
+    → value (rankReply (askRunning s 0)) 0 0 ≡ j → paper (step s k j o .answer) .number ≢ 4 → step s k j o ≡ oldRequest s (modeOf k) j o
+one-request s K first one k j o kind run ok = go (refusal s k j o) refl
   where
     go : (n : ℕ) → refusal s k j o ≡ n → step s k j o ≡ oldRequest s (modeOf k) j o
     go zero e =
         let rank = not-refused s k j o e .rank in
         step-accepted s k j o e ∙ accepted-request s k j o kind
-        ∙ request-same s (modeOf k) j o (same-key s K one j (rank .0) (rank .1) (sym (running-is s K one) ∙ run))
+        ∙ request-same s (modeOf k) j o (same-key s K first one j (rank .0) (rank .1) (sym (running-is s K first one) ∙ run))
     go (suc n) e = absurd (ok (refused-number s k j o n e))

@@ -1,16 +1,20 @@
 -- The promises about the manager as a whole: demand 3, well-formed states, granting and naming, no second wake-up, the old rule on one processor,
--- nobody by the table, and write locks that stay. Their terms are in Terms.antt, for demand 3 in theory/specs/Words.antt and for write locks in theory/specs/WriteLocks.antt;
+-- nobody by the table, and write locks that stay, for tables of both versions, but the old rule for version 1; and what holds of version 2 alone.
+-- Their terms are in Terms.antt, for demand 3 in theory/specs/Words.antt and for write locks in theory/specs/WriteLocks.antt;
 -- the files between Terms.antt and this one prove them. The sentences in quotes are document 01's, or where it says so 02's. Assumes nothing.
 use mathlib.Core.Path.{_≡_, ap}
 use mathlib.Core.Logic.{_≢_, _↔_}
 use mathlib.Core.Bool.{true, false}
 use mathlib.Core.List.{List, [], _∷_}
 use Prim.Native.Nat.{ℕ, zero, suc, _≤_}
+use native.Mathlib.Omega.{arith}
+use lib.Dec.{eqb}
 use lib.ListN.{getD}
+use borrow.Author.Tests.{eqb-false, not-true}
 use Rattle.basics.specs.Choice.{between}
 use Rattle.ranks.specs.RankLaws.{first-empty}
 use Rattle.state.specs.declared.State.{State}
-use Rattle.state.specs.State.{mostJobs, write, isObject, declared, declaredAny, holds, isWaiting}
+use Rattle.state.specs.State.{mostJobs, write, isObject, declared, declaredAny, holds, isCertified, requestOf, isWaiting}
 use Rattle.state.specs.WellFormed.{wellFormed}
 use Rattle.state.specs.Facts.{Sized}
 use Rattle.state.specs.WellFormedFacts.{facts, facts-well-formed}
@@ -21,23 +25,25 @@ use Rattle.rule.specs.GrantingTheorems.{MoreUrgentThanOthers, FirstOfOthers}
 use Rattle.events.specs.Answers.{paper}
 use Rattle.refusals.specs.Refusals.{isRequest, modeOf}
 use Rattle.manager.specs.Keeping.{step-keeps, step-well-formed}
-use Rattle.basics.specs.Replies.{value}
-use Rattle.questions.specs.Answers.{rankReply, ceilingsReply}
+use Rattle.basics.specs.Replies.{told, value}
+use Rattle.questions.specs.Answers.{rankReply, namedReply, ceilingsReply}
 use Rattle.questions.specs.Questions.{askInheritedRank, askNamedLock, askCeilings, askRunning}
 use Rattle.theory.specs.Words.{Ends, Demand3}
-use Rattle.theory.specs.WriteLocks.{HoldsWrite, WriteLocksStay}
+use Rattle.theory.specs.WriteLocks.{HoldsWrite, WriteLocksStay, WritesCertified}
 use Rattle.theory.specs.Keeps.{none-passes}
 use Rattle.theory.specs.WritesStay.{write-kept}
-use Rattle.theory.specs.Lists.{stateAt, labelAt, demand3-of, writes-stay-of, writes-shown-of}
-use Rattle.promises.specs.Terms.{Event, outcomeOf, next, label, named, Reached, fresh, after, oldRequest, CeilingIs}
+use Rattle.theory.specs.Lists.{stateAt, labelAt, demand3-of, writes-stay-of, writes-shown-of, writes-certified-of}
+use Rattle.promises.specs.Terms.{Event, outcomeOf, next, label, named, Reached, fresh, after, oldRequest, AboveWriters, CeilingIs}
 use Rattle.promises.specs.TableStates.{read-sized}
 use Rattle.promises.specs.View.{view}
-use Rattle.promises.specs.LockModes.{modes, write-mode, mode-write}
+use Rattle.promises.specs.LockModes.{modes, write-mode, mode-write, certify-mode, mode-certify}
 use Rattle.promises.specs.Steps.{step-goes, done-kind}
 use Rattle.promises.specs.ReachedStates.{kept, fresh-facts, fresh-view, manages, moves-modes}
 use Rattle.promises.specs.Waking.{blocked-not-woken, nobody-left}
 use Rattle.promises.specs.Requests.{granted-exactly, waits-for}
 use Rattle.promises.specs.OldRule.{one-request}
+use Rattle.promises.specs.Finishing.{manages-second, moves-second, certifies-second}
+use Rattle.promises.specs.HeldUp.{answer-certified, named-certified}
 use Rattle.promises.specs.NobodyAs65.{ceiling65, oldRequest65, step65, askInheritedRank65, askNamedLock65, askCeilings65, askRunning65}
 use Rattle.promises.specs.Nobody.{old-request-same, step-same, ask-inherited-same, ask-named-same, ask-running-same, ask-ceilings-are, ask-ceilings-64}
 
@@ -75,7 +81,7 @@ pub reached-well-formed : {t : State} → Reached t → wellFormed t ≡ true
 reached-well-formed {t} r = facts-well-formed t (kept r .facts)
 
 -- ---- GRANTED OR WAITS
--- A request, of kind 2 or 3, that is not refused, the fourth answer, in any well-formed state, handed in or reached.
+-- A request, of kind 2, 3 or 7, that is not refused, the fourth answer, in any well-formed state, handed in or reached.
 module _ (s : State) (sized : Sized s) (well : wellFormed s ≡ true) (e : Event) (kind : isRequest (e .kind) ≡ true)
     (ok : paper (outcomeOf s e .answer) .number ≢ 4) where
   -- "A request is granted if the requester's rank is more urgent than the weight of every lock held by others." It is the first answer.
@@ -113,12 +119,13 @@ nobody-to-wake {t} r = nobody-left t (no-waiting-request-passes r)
 
 -- ---- ONE PROCESSOR
 -- "Equality with it is claimed for one state, reached from a fresh one by any events, and one request of the job that
--- the only processor runs: the same grant or wait, the same named lock." A request is of kind 2 or 3, and not refused, the fourth answer.
-pub one-processor : {t : State} → Reached t → t .counts .processors ≡ 1
+-- the only processor runs: the same grant or wait, the same named lock." A request is of kind 2, 3 or 7, and not refused, the fourth answer.
+-- 02, CR 6: "The old rule's equality is for version 1 alone."
+pub one-processor : {t : State} → Reached t → t .counts .version ≡ 1 → t .counts .processors ≡ 1
     → (e : Event) → isRequest (e .kind) ≡ true → value (rankReply (askRunning t 0)) 0 0 ≡ e .rank → paper (outcomeOf t e .answer) .number ≢ 4
     → paper (outcomeOf t e .answer) ≡ paper (oldRequest t (modeOf (e .kind)) (e .rank) (e .object) .answer)
-one-processor {t} r one e kind run ok =
-    ap (λ x. paper (x .answer)) (one-request t (kept r) one (e .kind) (e .rank) (e .object) kind run ok)
+one-processor {t} r first one e kind run ok =
+    ap (λ x. paper (x .answer)) (one-request t (kept r) first one (e .kind) (e .rank) (e .object) kind run ok)
 
 -- ---- NOBODY IS ONE PAST THE LAST RANK
 -- 02, CR 4, of any well-formed state, handed in or reached. The rule with 65 for nobody, which stood before, is in NobodyAs65.antt:
@@ -156,22 +163,49 @@ pub sixty-four-jobs : (s : State) → s .counts .jobs ≡ mostJobs → (o : ℕ)
 sixty-four-jobs = ask-ceilings-64
 
 -- ---- WRITE LOCKS STAY UNTIL THE END
--- 02, CR 1: "The trade's habit is to release writes when a run ends .. Unlock is for read locks from now on."
+-- 02, CR 1: "The trade's habit is to release writes when a run ends .. Unlock is for read locks from now on." CR 6: "A certified object ..,
+-- like a write lock, can't be unlocked early".
 -- Over any list of events from a fresh state, in words that are read off the events and their answers: a run that has been granted
--- a write lock on an object holds it, as a write lock, at every later moment until the run's end.
+-- a write or certify lock on an object holds one there at every later moment until the run's end.
 pub write-locks-stay : (s : State) → Sized s → Fresh s → (es : List Event) → WriteLocksStay (labelAt next label s es)
 write-locks-stay s z f es = writes-stay-of next label view manages modes moves-modes s (fresh-facts z f) (fresh-view z f) es
 
--- And a write lock that is held in these words is held in the state.
+-- And a lock that is held in these words is a write lock in the state, certified or not.
 pub write-locks-shown : (s : State) → Sized s → Fresh s → (es : List Event) (j k o t : ℕ)
     → HoldsWrite (labelAt next label s es) j k o t → holds (stateAt next label s es t) write j o ≡ true
 write-locks-shown s z f es j k o t h =
     mode-write (stateAt next label s es t) j o
     (writes-shown-of next label view manages modes moves-modes s (fresh-facts z f) (fresh-view z f) es j k o t h)
 
--- One event, in any well-formed state, handed in or reached: each write lock of a job is among those after it, unless the event ends the job's run.
+-- One event, in any well-formed state, handed in or reached: each write lock of a job is among those after it, and a certify lock stays one,
+-- unless the event ends the job's run.
 pub write-locks-kept : (s : State) → Sized s → wellFormed s ≡ true → (e : Event) (j o : ℕ)
-    → ¬ Ends (label s e) j → holds s write j o ≡ true → holds (next s e) write j o ≡ true
+    → ¬ Ends (label s e) j → holds s write j o ≡ true
+    → (holds (next s e) write j o ≡ true) × (isCertified s o ≡ true → isCertified (next s e) o ≡ true)
 write-locks-kept s z w e j o goes-on held =
-    mode-write (next s e) j o
-    (write-kept (step-goes s (facts s z w) (e .kind) (e .rank) (e .object) .moves) j o (write-mode s j o held) goes-on)
+    let writes = write-mode s j o held in
+    let kept = write-kept (step-goes s (facts s z w) (e .kind) (e .rank) (e .object) .moves) j o writes goes-on in
+    (mode-write (next s e) j o (omega arith), λ c. mode-certify (next s e) j o (omega (arith, certify-mode s j o held c)))
+
+-- ---- VERSION 2
+-- 02, CR 6. A run that finishes has certified every write lock that it was granted: over any list of events from a fresh state of version 2,
+-- in words that are read off the events and their answers (theory/specs/WriteLocks.antt).
+pub finish-certified : (s : State) → Sized s → Fresh s → s .counts .version ≡ 2 → (es : List Event) → WritesCertified (labelAt next label s es)
+finish-certified s z f second es =
+    writes-certified-of next label view manages-second modes moves-second certifies-second s (fresh-facts z f, second) (fresh-view z f) es
+
+-- A request of a job more urgent than every declared writer of an object is never held up by a write lock on that object: in any well-formed state
+-- of version 2, handed in or reached, a write lock that holds it up, h's on object o, is certified.
+module _ (s : State) (sized : Sized s) (well : wellFormed s ≡ true) (second : s .counts .version ≡ 2) where
+  -- The request is answered waits, the second answer, with holder h, object o and some reason.
+  pub writers-hold-nobody-up : (e : Event) → isRequest (e .kind) ≡ true → (h o n : ℕ)
+      → paper (outcomeOf s e .answer) ≡ record { number = 2; values = h ∷ o ∷ n ∷ [] }
+      → AboveWriters s (e .rank) o → holds s write h o ≡ true → isCertified s o ≡ true
+  writers-hold-nobody-up e kind h o n answer above held =
+      answer-certified s (facts s sized well) second (e .rank) h o above held (e .kind) (e .object) n kind answer
+
+  -- So it is as long as it waits: the question for the named lock of job j gives h and o.
+  pub writers-keep-nobody-waiting : (j h o : ℕ) → isWaiting s j ≡ true → namedReply (askNamedLock s j) ≡ told (h ∷ o ∷ [])
+      → AboveWriters s j o → holds s write h o ≡ true → isCertified s o ≡ true
+  writers-keep-nobody-waiting j h o waits reply above held =
+      named-certified s (facts s sized well) second j h o above held (eqb-false (requestOf s j) 0 (not-true (eqb (requestOf s j) 0) waits)) reply

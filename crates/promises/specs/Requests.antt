@@ -7,7 +7,7 @@ use Prim.Native.Nat.{ℕ, zero, suc, _≤_}
 use native.Mathlib.Omega.{arith}
 use lib.ListN.{getD}
 use borrow.Author.Tests.{ne-eqb}
-use Rattle.basics.specs.Choice.{between-true}
+use Rattle.basics.specs.Choice.{clash}
 use Rattle.state.specs.State.{mostJobs}
 use Rattle.state.specs.declared.State.{State}
 use Rattle.state.specs.WellFormed.{wellFormed}
@@ -24,7 +24,7 @@ use Rattle.manager.specs.Step.{step, step-accepted}
 -- an accepted request is a request of the rule
 pub accepted-request : (s : State) (k r o : ℕ) → isRequest k ≡ true → accepted s k r o ≡ request s (modeOf k) r o
 unfolding accepted
-accepted-request s k r o e = let two = between-true 2 3 k e in simp (ne-eqb k 1 (λ q. omega arith), e)
+accepted-request s k r o e = simp (ne-eqb k 1 (λ q. clash e (ap isRequest q)), e)
 
 pub refused-number : (s : State) (k r o n : ℕ) → refusal s k r o ≡ suc n → paper (step s k r o .answer) .number ≡ 4
 unfolding step
@@ -52,28 +52,33 @@ module _ (s : State) (z : Sized s) (w : wellFormed s ≡ true) (k r o : ℕ) (ki
       go zero e = refl
       go (suc n) e = absurd (ok (refused-number s k r o n e))
 
-  fits : r ≤ mostJobs
-  fits = omega (arith, not-refused s k r o none-refuses .rank, facts s z w .counts .jobs)
+  pub rank-fits : r ≤ mostJobs
+  rank-fits = omega (arith, not-refused s k r o none-refuses .rank, facts s z w .counts .jobs)
 
   answer-is : answerOf s (modeOf k) r o ≡ paper (step s k r o .answer)
   answer-is = sym (ap (λ x. paper (x .answer)) (step-accepted s k r o none-refuses ∙ accepted-request s k r o kind))
 
   pub granted-exactly : (paper (step s k r o .answer) .number ≡ 1) ↔ MoreUrgentThanOthers s r
   granted-exactly = (
-    λ one. passes-iff s z w r fits .0 (by-number (passes s r) refl (ap (λ (p : Paper). p .number) answer-is ∙ one)),
-    λ all. sym (ap (λ (p : Paper). p .number) answer-is) ∙ request-passes s (modeOf k) r o (passes-iff s z w r fits .1 all),
+    λ one. passes-iff s z w r rank-fits .0 (by-number (passes s r) refl (ap (λ (p : Paper). p .number) answer-is ∙ one)),
+    λ all. sym (ap (λ (p : Paper). p .number) answer-is) ∙ request-passes s (modeOf k) r o (passes-iff s z w r rank-fits .1 all),
   )
     where
       by-number : (b : Bool) → passes s r ≡ b → answerOf s (modeOf k) r o .number ≡ 1 → passes s r ≡ true
       by-number true e one = e
       by-number false e one = absurd (omega (arith, request-stopped s (modeOf k) r o e .0))
 
+  -- the answer waits gives the holder and the object of the lock that stops the request
+  abbrev Stopped : Paper → Type 0
+  Stopped p = (passes s r ≡ false) × (getD (p .values) 0 0 ≡ stoppingHolder s r) × (getD (p .values) 1 0 ≡ stoppingObject s r)
+
+  pub waits-stopped : paper (step s k r o .answer) .number ≡ 2 → Stopped (paper (step s k r o .answer))
+  waits-stopped two = subst Stopped answer-is (stopped (passes s r) refl)
+    where
+      stopped : (b : Bool) → passes s r ≡ b → Stopped (answerOf s (modeOf k) r o)
+      stopped true e = absurd (omega (arith, request-passes s (modeOf k) r o e, ap (λ (p : Paper). p .number) answer-is))
+      stopped false e = let is = request-stopped s (modeOf k) r o e in (e, is .1, is .2)
+
   pub waits-for : paper (step s k r o .answer) .number ≡ 2
       → FirstOfOthers s r (getD (paper (step s k r o .answer) .values) 0 0) (getD (paper (step s k r o .answer) .values) 1 0)
-  waits-for two = subst (λ (p : Paper). FirstOfOthers s r (getD (p .values) 0 0) (getD (p .values) 1 0)) answer-is (stopped (passes s r) refl)
-    where
-      stopped : (b : Bool) → passes s r ≡ b → FirstOfOthers s r (getD (answerOf s (modeOf k) r o .values) 0 0) (getD (answerOf s (modeOf k) r o .values) 1 0)
-      stopped true e = absurd (omega (arith, request-passes s (modeOf k) r o e, ap (λ (p : Paper). p .number) answer-is))
-      stopped false e =
-          let is = request-stopped s (modeOf k) r o e in
-          rw (is .1, is .2) (stopping-lock s z w r fits e)
+  waits-for two = let is = waits-stopped two in rw (is .1, is .2) (stopping-lock s z w r rank-fits (is .0))

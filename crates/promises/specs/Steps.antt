@@ -8,10 +8,10 @@ use native.Mathlib.Omega.{arith}
 use native.Mathlib.Decide.{ℕ-discrete}
 use lib.Dec.{eqb}
 use borrow.Author.Tests.{ne-eqb, not-false, le-leb, lt-leb}
-use Rattle.basics.specs.Choice.{if_then_else_, clash, between, between-true}
+use Rattle.basics.specs.Choice.{if_then_else_, clash, between, and-left, between-true}
 use Rattle.ranks.specs.RankLaws.{member-with-same, member-without-same}
 use Rattle.state.specs.declared.State.{State}
-use Rattle.state.specs.State.{mostObjects, read, write, holds, holdsAny, isActive, hasUnlocked, requestOf, modeOfRequest, objectOfRequest, requestedObject}
+use Rattle.state.specs.State.{mostObjects, read, write, certify, holds, holdsAny, isCertified, isActive, hasUnlocked, requestOf, modeOfRequest, objectOfRequest, requestedObject}
 use Rattle.state.specs.State.{activate, await, grant, release, endRun}
 use Rattle.state.specs.Facts.{RequestFacts, Facts}
 use Rattle.state.specs.Changes.{activate-same, await-same, object-fits, await-request, grant-request, grant-same, grant-locks}
@@ -19,11 +19,12 @@ use Rattle.state.specs.Changes.{release-none, release-same, release-locks, end-
 use Rattle.state.specs.Keeping.{release-keeps, end-keeps}
 use Rattle.weights.specs.Keys.{noWeight, keyHolder, keyObject, lowestKey}
 use Rattle.rule.specs.Granting.{passes, reason, wakeable}
+use Rattle.rule.specs.Conflicts.{no-conflict}
 use Rattle.events.specs.declared.Outcome.{Outcome}
 use Rattle.events.specs.declared.Answer.the-variants.{Granted, Waits, Refused}
 use Rattle.events.specs.Answers.{Paper, paper}
 use Rattle.refusals.specs.Refusals.{modeOf, refusal}
-use Rattle.refusals.specs.AcceptedEvent.{AcceptedEvent, not-refused, not-waiting, read-facts, write-facts}
+use Rattle.refusals.specs.AcceptedEvent.{AcceptedEvent, not-refused, not-waiting, read-facts, write-facts, certify-facts}
 use Rattle.events.specs.Events.{outcome, requestMeeting, request, woken, wake, accepted}
 use Rattle.manager.specs.Step.{step}
 use Rattle.theory.specs.Words.{Label, Ends}
@@ -56,7 +57,7 @@ module _ (s : State) (F : Facts s) (r : ℕ) (low : 1 ≤ r) (high : r ≤ s .co
   unfolding activate
   start-goes o idle = record {
     step =
-        start-step r o (λ x p. weight-frame s (activate s r) x p (λ m. refl)) (λ x. refl) (ap asNumber idle) active
+        start-step r o (λ x p. weight-frame s (activate s r) x p (record { locks = λ m. refl; certified = λ h. refl })) (λ x. refl) (ap asNumber idle) active
         (λ x. elim (ℕ-discrete r x) [ yes e ↦ inr e | no d ↦ inl (active-frame s (activate s r) x (activate-same s r x d)) ]) (λ x. refl);
     moves = nothing-modes 1 r o (omega arith) (λ x. refl) (λ x p. refl);
   }
@@ -80,7 +81,7 @@ module _ (s : State) (F : Facts s) (r : ℕ) (low : 1 ≤ r) (high : r ≤ s .co
           grant-step r o m may (free none) (λ x. refl) (λ x. refl) (took-grant s F r low high m o A (passes-all s F r small e))
           (λ x. ap objectOfRequest (same-requests x));
       moves =
-          grant-modes r o m (given-grant s F r low high m o A)
+          grant-modes r o m (given-grant s F r low high m o A (no-conflict s F r low high m o A e))
           (λ x p. elim (grant-locks s F r m o A x p) [ inl same ↦ inl (mode-frame s (grant s m r o) x p same) | inr own ↦ inr own ])
           (λ x. ap modeOfRequest (same-requests x));
     }
@@ -96,7 +97,7 @@ module _ (s : State) (F : Facts s) (r : ℕ) (low : 1 ≤ r) (high : r ≤ s .co
     wait-goes e = record {
       step =
           wait-step r o m may (free none) (λ x. refl) (λ x. refl) (A .object .0) (fails-blocked s F r small e)
-          (λ x p. weight-frame s (await s m r o) x p (λ n. refl))
+          (λ x p. weight-frame s (await s m r o) x p (record { locks = λ n. refl; certified = λ h. refl }))
           (ap objectOfRequest (await-request s F r m o A) ∙ omega (arith, object-fits s F r m o A))
           (λ x. elim (ℕ-discrete r x) [ yes q ↦ inr q | no d ↦ inl (requested-frame s (await s m r o) x (await-same s r m o x d)) ]);
       moves =
@@ -142,7 +143,7 @@ module _ (s : State) (F : Facts s) (r : ℕ) (low : 1 ≤ r) (high : r ≤ s .co
             release-modes 4 r o (wakeable (release s r o)) (view (release s r o)) (modes (release s r o)) (woken-modes (release s r o) keeps)
             (omega arith) (λ l e. woke .waited l (ap (requestedObject s) e ∙ free none)) (λ x. inl refl)
             (λ x p. elim (locks x p) [ inl l ↦ inl (mode-frame s (release s r o) x p l) | inr own ↦ inr (inl (omega arith)) ])
-            (λ x. inl refl) (λ e. read-mode (holds s write r o) (holds s read r o) held unwritten);
+            (λ x. inl refl) (λ e. read-mode (holds s write r o) (isCertified s o) (holds s read r o) held unwritten);
       }
     where
       marked : asNumber (hasUnlocked (release s r o) r) ≢ 0
@@ -189,9 +190,9 @@ unfolding accepted wake
 accepted-goes s F zero r o A = absurd (clash (A .kind) refl)
 accepted-goes s F (suc zero) r o A = start-goes s F r (A .rank .0) (A .rank .1) o (A .not-12)
 accepted-goes s F (suc (suc zero)) r o A =
-    request-goes s F r (A .rank .0) (A .rank .1) read o (read-facts s r o A) (not-waiting s r (A .not-14)) 2 refl
+    request-goes s F r (A .rank .0) (A .rank .1) read o (read-facts s (F .version) r o A) (not-waiting s r (A .not-14)) 2 refl
 accepted-goes s F (suc (suc (suc zero))) r o A =
-    request-goes s F r (A .rank .0) (A .rank .1) write o (write-facts s r o A) (not-waiting s r (A .not-14)) 3 refl
+    request-goes s F r (A .rank .0) (A .rank .1) write o (write-facts s (F .version) r o A) (not-waiting s r (A .not-14)) 3 refl
 accepted-goes s F (suc (suc (suc (suc zero)))) r o A =
     let object = between-true 1 (s .counts .objects) o (A .object) in
     unlock-goes s F r (A .rank .0) (A .rank .1) o (object .0) (object .1) (not-false (isActive s r) (A .not-13))
@@ -200,8 +201,10 @@ accepted-goes s F (suc (suc (suc (suc (suc zero))))) r o A =
     end-goes s F r (A .rank .0) (A .rank .1) 5 o (omega arith) (omega arith) (λ l. not-waiting s r (A .not-14))
 accepted-goes s F (suc (suc (suc (suc (suc (suc zero)))))) r o A =
     end-goes s F r (A .rank .0) (A .rank .1) 6 o (omega arith) (omega arith) (λ l. absurd (omega arith))
-accepted-goes s F (suc (suc (suc (suc (suc (suc (suc k))))))) r o A =
-    absurd (omega (arith, between-true 1 6 (suc (suc (suc (suc (suc (suc (suc k))))))) (A .kind)))
+accepted-goes s F (suc (suc (suc (suc (suc (suc (suc zero))))))) r o A =
+    request-goes s F r (A .rank .0) (A .rank .1) certify o (certify-facts s (F .version) r o A) (not-waiting s r (A .not-14)) 7 refl
+accepted-goes s F (suc (suc (suc (suc (suc (suc (suc (suc k)))))))) r o A =
+    absurd (omega (arith, between-true 1 7 (suc (suc (suc (suc (suc (suc (suc (suc k)))))))) (and-left _ _ (A .kind))))
 
 pub step-goes : (s : State) → Facts s → (k r o : ℕ) → OutcomeGoes s k r o (step s k r o)
 unfolding step
@@ -218,5 +221,5 @@ step-goes s F k r o = go (refusal s k r o) refl
 pub done-kind : (k : ℕ) (p : Paper) → between 4 6 k ≡ true → p .number ≡ 3 → 4 ≤ happened k p
 done-kind k p kind done =
     let known = between-true 4 6 k kind in
-    let is : happened k p ≡ k = simp (done, lt-leb k 3 (omega arith), le-leb 2 k (omega arith)) in
+    let is : happened k p ≡ k = simp (done, lt-leb k 3 (omega arith), le-leb 2 k (omega arith), ne-eqb k 7 (λ q. omega arith)) in
     omega arith

@@ -6,7 +6,7 @@ use mathlib.Core.List.{List}
 use Prim.Native.Nat.{ℕ, _-_}
 use native.Mathlib.Omega.{arith}
 use lib.ListN.{length, take, drop, length-append, length-take, length-drop, length-replicate}
-use Rattle.state.specs.State.{mostJobs, read, write, mostObjects, zeros}
+use Rattle.state.specs.State.{mostJobs, read, write, mostObjects, markWords, zeros}
 use Rattle.state.specs.Facts.{Sized}
 use Rattle.table.specs.declared.TableRead.{TableRead}
 use Rattle.table_bytes.specs.Bytes.{jobsIn, entryCount}
@@ -39,6 +39,7 @@ module _ (b : List ℕ) (a : AcceptedTable b) where
     may-write = declared-fits b a write (entryCount b) (omega arith) .long;
     readers = length-replicate {A = ℕ} mostObjects 0;
     writers = length-replicate {A = ℕ} mostObjects 0;
+    certified = length-replicate {A = ℕ} markWords 0;
     request = length-replicate {A = ℕ} mostJobs 0;
   }
 

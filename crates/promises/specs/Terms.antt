@@ -1,13 +1,14 @@
 -- The terms of the promises: events, what demand 3 reads off an event and its answer, whom a job names, the states that are reached,
--- a request by the old rule, and a ceiling. The sentences in quotes are document 01's, or where it says so 02's.
+-- a request by the old rule, who is more urgent than an object's writers, and a ceiling. The sentences in quotes are document 01's, or where it says so 02's.
 -- Assumes nothing.
 use mathlib.Core.Path.{_≡_}
-use mathlib.Core.Bool.{Bool}
-use Prim.Native.Nat.{ℕ, _+_, _≤_}
+use mathlib.Core.Bool.{Bool, true}
+use Prim.Native.Nat.{ℕ, _+_, _≤_, _<_}
 use lib.Dec.{eqb}
 use lib.ListN.{getD}
 use Rattle.basics.specs.Choice.{if_then_else_}
 use Rattle.state.specs.declared.State.{State}
+use Rattle.state.specs.State.{write, mayLock}
 use Rattle.state.specs.Facts.{Sized, In}
 use Rattle.table.specs.Fresh.{Fresh}
 use Rattle.weights.specs.Keys.{oldLowestKey}
@@ -54,7 +55,7 @@ happened k p =
     if isDone p then (if isRequest k then 0 else k) else
     0
 
--- "A request is an event answered granted or waits": its mode, 1 read or 2 write; 0 where there is none
+-- "A request is an event answered granted or waits", of kind 2, 3 or 7: its mode, 1 read, 2 write or 3 certify; 0 where there is none
 abbrev pub modeAsked : ℕ → Paper → ℕ
 modeAsked k p = if isGranted p then modeOf k else if isWaits p then modeOf k else 0
 
@@ -82,6 +83,10 @@ pub data Reached : State → Type 0 where
 -- ---- a request of r for object o in mode m by the old rule: "The old rule is the same with a read lock weighing the write ceiling alone."
 abbrev pub oldRequest : State → ℕ → ℕ → ℕ → Outcome
 oldRequest s m r o = requestMeeting s m r o (oldLowestKey s r)
+
+-- ---- job j is more urgent than every job that is declared to write object o
+abbrev pub AboveWriters : State → ℕ → ℕ → Type 0
+AboveWriters s j o = (q : ℕ) → mayLock s write q o ≡ true → j < q
 
 -- ---- n is the ceiling of these ranks in a table of so many jobs. Nobody is said in the paper's words here, so that they hold the definition (`nobody`).
 pub record CeilingIs (jobs ranks n : ℕ) : Type 0 where

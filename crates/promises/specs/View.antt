@@ -3,19 +3,22 @@
 use mathlib.Core.Path.{_≡_, refl, sym, subst}
 use mathlib.Core.Logic.{_≢_}
 use mathlib.Core.Bool.{Bool, true, false, not}
+use mathlib.Core.List.{[], _∷_}
 use Prim.Native.Nat.{ℕ, _+_, _<_}
 use native.Mathlib.Omega.{arith}
 use native.Mathlib.Decide.{ℕ-discrete}
 use lib.Dec.{eqb}
 use borrow.Author.Tests.{eq-eqb, ne-eqb, ltb-false}
 use Rattle.basics.specs.Choice.{if_then_else_, _if_else_, inside-between}
+use Rattle.basics.specs.Replies.{told}
 use Rattle.state.specs.declared.State.{State}
 use Rattle.state.specs.State.{mostObjects, isActive, hasUnlocked, requestOf, requestedObject}
 use Rattle.state.specs.Facts.{Facts}
 use Rattle.state.specs.WellFormedFacts.{facts-well-formed, held-object, waiting-rank}
 use Rattle.weights.specs.Keys.{noWeight, keyWeight, keyHolder, keyObject, lowestKey}
-use Rattle.rule.specs.Granting.{passes, namedKey}
+use Rattle.rule.specs.Granting.{passes, namedKey, namedHolder, namedObject}
 use Rattle.refusals.specs.Refusals.{jobRefusal}
+use Rattle.questions.specs.Answers.{namedReply}
 use Rattle.questions.specs.Questions.{askNamedLock}
 use Rattle.theory.specs.Machine.{View, Blocked, NamedLock, Seen}
 use Rattle.theory.specs.Key.{key-named}
@@ -63,12 +66,20 @@ module _ (s : State) (F : Facts s) where
       go true q = simp (q, eq-eqb (requestOf s j) 0 e)
       go false q = simp q
 
-  -- a waiting job whose request does not pass names the holder of the lowest key
-  pub names-lowest : (j : ℕ) → requestOf s j ≢ 0 → passes s j ≡ false → named s j ≡ keyHolder (lowestKey s j)
-  unfolding askNamedLock jobRefusal namedKey
-  names-lowest j d e =
+  -- the question is not refused for a waiting job
+  pub asks-named : (j : ℕ) → requestOf s j ≢ 0 → namedReply (askNamedLock s j) ≡ told (namedHolder s j ∷ namedObject s j ∷ [])
+  unfolding askNamedLock jobRefusal
+  asks-named j d =
       let rank = waiting-rank s F j d in
-      simp (facts-well-formed s F, inside-between 1 (s .counts .jobs) j (rank .0) (rank .1), F .requests j d .active, ne-eqb (requestOf s j) 0 d, e)
+      simp (facts-well-formed s F, inside-between 1 (s .counts .jobs) j (rank .0) (rank .1), F .requests j d .active)
+
+  -- whose named lock is the one with the lowest key, if its request does not pass
+  pub named-lowest : (j : ℕ) → requestOf s j ≢ 0 → passes s j ≡ false → namedKey s j ≡ lowestKey s j
+  unfolding namedKey
+  named-lowest j d e = simp (ne-eqb (requestOf s j) 0 d, e)
+
+  pub names-lowest : (j : ℕ) → requestOf s j ≢ 0 → passes s j ≡ false → named s j ≡ keyHolder (lowestKey s j)
+  names-lowest j d e = simp (asks-named j d, named-lowest j d e)
 
   pub seen : Seen noWeight (mostObjects + 1) (view s)
   seen = record {

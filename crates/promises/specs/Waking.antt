@@ -16,6 +16,7 @@ use Rattle.state.specs.Facts.{RequestFacts, Facts}
 use Rattle.state.specs.WellFormedFacts.{waiting-rank}
 use Rattle.state.specs.Changes.{grant-request, grant-same, grant-locks}
 use Rattle.rule.specs.Granting.{passes, wakes, wakeable}
+use Rattle.rule.specs.Conflicts.{no-conflict}
 use Rattle.rule.specs.WakeLaws.{FoundAt, wakes-is}
 use Rattle.events.specs.Events.{woken}
 use Rattle.events.specs.Keeping.{by-search}
@@ -90,7 +91,9 @@ module _ (s : State) where
 
       one-woke-modes : WokeModes (view s) (modes s) w (modes (grant s (requestedMode s w) w (requestedObject s w)))
       one-woke-modes = record {
-        gave = λ a. given-grant s F w (W .low) (W .high) (requestedMode s w) (requestedObject s w) request;
+        gave = λ a.
+            given-grant s F w (W .low) (W .high) (requestedMode s w) (requestedObject s w) request
+            (no-conflict s F w (W .low) (W .high) (requestedMode s w) (requestedObject s w) request (wakes-is s w (W .low) (W .itself) .1));
         held-same = λ x p. elim (grant-locks s F w (requestedMode s w) (requestedObject s w) request x p) [
           | inl same ↦ inl (mode-frame s (grant s (requestedMode s w) w (requestedObject s w)) x p same)
           | inr own ↦ inr (omega (arith, W .low, own .0), own .0, rw (own .0) at (own .1))

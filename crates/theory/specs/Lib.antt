@@ -1,5 +1,5 @@
--- The files in the order in which they build on one another. Words alone states demand 3, and WriteLocks, in its words, change request 1;
--- Lists has the theorems.
+-- The files in the order in which they build on one another. Words alone states demand 3, and WriteLocks, in its words, change request 1
+-- and what change request 6 makes of a run that finishes; Lists has the theorems.
 pub mod Words
 pub mod WriteLocks
 pub mod Machine
@@ -9,5 +9,6 @@ pub mod Demand
 pub mod Build
 pub mod Modes
 pub mod WritesStay
+pub mod Certified
 pub mod Lists
 pub mod Key

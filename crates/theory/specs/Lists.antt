@@ -1,17 +1,18 @@
--- Demand 3 and change request 1 of a manager, for any list of events from a fresh state:
--- shown from what the manager shows of one state and one event (Manages; for change request 1 also MovesModes).
+-- Demand 3, change request 1 and what change request 6 makes of a run that finishes, of a manager, for any list of events from a fresh state:
+-- shown from what the manager shows of one state and one event (Manages; for the change requests also MovesModes, and for the last CertifiesWrites).
 use mathlib.Core.Path.{refl}
 use mathlib.Core.List.{List, [], _∷_}
 use Prim.Native.Nat.{ℕ, zero, suc, _≤_}
 use native.Mathlib.Omega.{arith}
 use Rattle.theory.specs.Words.{Label, Demand3}
-use Rattle.theory.specs.WriteLocks.{HoldsWrite, WriteLocksStay}
+use Rattle.theory.specs.WriteLocks.{HoldsWrite, WriteLocksStay, WritesCertified}
 use Rattle.theory.specs.Machine.{View, Step, Seen, FreshView}
 use Rattle.theory.specs.Links.{Trace}
 use Rattle.theory.specs.Demand.{trace-demand3}
 use Rattle.theory.specs.Build.{labelled, refused-step}
-use Rattle.theory.specs.Modes.{Modes, ModeStep, nothing-modes}
+use Rattle.theory.specs.Modes.{Modes, ModeStep, FinishesCertified, nothing-modes}
 use Rattle.theory.specs.WritesStay.{written, trace-writes-stay}
+use Rattle.theory.specs.Certified.{trace-writes-certified}
 
 -- "An event in it is any three bytes, of any kind or none,
 -- and gets the state that the event before it returned, refused or not."
@@ -64,6 +65,10 @@ module _ {State Event : Type 0} (next : State → Event → State) (label : Stat
         abbrev pub MovesModes : Type 0
         MovesModes = (s : State) (e : Event) → Good s → ModeStep (view s) (modes s) (label s e) (modes (next s e))
 
+        -- and where from a good state no job finishes with a write lock that is not certified
+        abbrev pub CertifiesWrites : Type 0
+        CertifiesWrites = (s : State) (e : Event) → Good s → FinishesCertified (modes s) (label s e)
+
         module _ (moves : MovesModes) where
           mode-step-at : (s : State) → Good s → (es : List Event) (t : ℕ)
               → ModeStep (view (stateAt s es t)) (modes (stateAt s es t)) (labelAt s es t) (modes (stateAt s es (suc t)))
@@ -81,4 +86,16 @@ module _ {State Event : Type 0} (next : State → Event → State) (label : Stat
               → (j k o t : ℕ) → HoldsWrite (labelAt s es) j k o t → 2 ≤ modes (stateAt s es t) .held j o
           writes-shown-of s g F es j k o t h =
               written {modes = λ t. modes (stateAt s es t)} (trace-of s g F es) (mode-step-at s g es)
-              j k o (h .last) t (h .grant) (h .before) (h .holds .run)
+              j k o (h .last) t (h .grant) (h .to-write) (h .before) (h .holds .run)
+
+          -- and CHANGE REQUEST 6 of a run that finishes
+          module _ (certified : CertifiesWrites) where
+            finish-at : (s : State) → Good s → (es : List Event) (t : ℕ) → FinishesCertified (modes (stateAt s es t)) (labelAt s es t)
+            finish-at s g [] zero = λ a. absurd (omega arith)
+            finish-at s g [] (suc t) = λ a. absurd (omega arith)
+            finish-at s g (e ∷ es) zero = certified s e g
+            finish-at s g (e ∷ es) (suc t) = finish-at (next s e) (G .keeps s e g) es t
+
+            pub writes-certified-of : (s : State) → Good s → FreshView N (view s) → (es : List Event) → WritesCertified (labelAt s es)
+            writes-certified-of s g F es =
+                trace-writes-certified {modes = λ t. modes (stateAt s es t)} (trace-of s g F es) (mode-step-at s g es) (finish-at s g es)

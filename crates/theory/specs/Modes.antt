@@ -1,5 +1,5 @@
 -- The modes of locks: what a state shows of them, what one event may do to them beside what Step says, and one law for each kind of event.
--- Modes are numbers, 0 none, 1 read, 2 write: a stronger one is a greater number.
+-- Modes are numbers, 0 none, 1 read, 2 write, 3 certify: a stronger one is a greater number.
 use mathlib.Core.Path.{_≡_, refl, sym, subst, _∙_}
 use mathlib.Core.Logic.{_≢_, _⊎_, inl, inr}
 use Prim.Native.Nat.{ℕ, _≤_, _<_}
@@ -25,7 +25,7 @@ Gives s u l x o m = (Grants l x o × (l .mode ≡ m)) ⊎ (Wakens l x × (s .req
 
 -- x is given a lock on o in mode m, a stronger one than it held there
 pub record Given (before after : ℕ → ℕ → ℕ) (x o m : ℕ) : Type 0 where
-  pub mode : m ≤ 2
+  pub mode : m ≤ 3
   pub holds : after x o ≡ m
   pub stronger : before x o < m
 
@@ -37,6 +37,10 @@ pub record ModeStep (s : View) (u : Modes) (l : Label) (u' : Modes) : Type 0 whe
   -- nothing else changes
   pub asked-same : (j : ℕ) → (u' .asked j ≡ u .asked j) ⊎ TurnsWait l j
   pub held-same : (r p : ℕ) → (u' .held r p ≡ u .held r p) ⊎ (Takes s l r p ⊎ Releases l r p)
+
+-- what a manager may show beyond it: a job that finishes has no write lock that is not certified
+abbrev pub FinishesCertified : Modes → Label → Type 0
+FinishesCertified u l = l .what ≡ 5 → (o : ℕ) → u .held (l .job) o ≢ 2
 
 -- ---- one law for each kind of event: what a manager shows of its own rules so that the event is a ModeStep
 

@@ -100,11 +100,12 @@ fn write_weight(
     requires { ⌜ (1 ≤ object) × (object ≤ mostObjects) ⌝ }
     ensures { λ r. ⌜ (r ≡ O.writersWeight counts (eqb (counts .version) 1 || marked (now (certified .entry)) object) «may_read» «may_write») × (r < K.noWeight) ⌝ }
 {
-    if state::shares_with_none(counts.version, certified, object) {
-        ceiling(counts, ranks::union(may_read, may_write))
+    let declared = if state::shares_with_none(counts.version, certified, object) {
+        ranks::union(may_read, may_write)
     } else {
-        ceiling(counts, may_write)
-    }
+        may_write
+    };
+    ceiling(counts, declared)
 }
 
 // The lowest key among the write locks that the writers hold on the object.

@@ -1,8 +1,16 @@
--- `weights::write_weight` meets its contract, by those of its calls.
+-- `weights::write_weight` meets its contract: the ceiling of the set that its test chooses.
 -- Assumes nothing.
-use mathlib.Core.Path.{sym, ap, _∙_}
-use mathlib.Core.Bool.{Bool}
+use denote.Ref.{now}
+use Prim.Native.Nat.{ℕ}
+use mathlib.Core.Path.{_≡_, refl, sym, ap, _∙_}
+use mathlib.Core.Logic.{inl, inr}
+use mathlib.Core.Bool.{Bool, true, false, _||_}
 use native.Mathlib.Omega.{arith}
+use lib.Dec.{eqb}
+use Rattle.basics.specs.Choice.{if_then_else_}
+use Rattle.ranks.specs.Ranks.{union}
+use Rattle.state.specs.declared.Counts.{Counts}
+use Rattle.state.specs.State.{marked}
 use Rattle.weights.specs.Weights.{ceilingOf}
 use Rattle.weights.specs.ObjectKeys.{writersWeight}
 use borrow.Author.Needs.{needs}
@@ -23,28 +31,21 @@ union-requires c κs = search needs
 ceiling-requires : tie.Need-ceiling-requires
 ceiling-requires c κs = search needs
 
-ceiling-requires-2 : tie.Need-ceiling-requires-2
-ceiling-requires-2 c κs = search needs
+weight-of : (c : Counts) (none : Bool) (mayRead mayWrite : ℕ) → ceilingOf c (if none then union mayRead mayWrite else mayWrite) ≡ writersWeight c none mayRead mayWrite
+weight-of c true mayRead mayWrite = refl
+weight-of c false mayRead mayWrite = refl
 
 returns : tie.Need-returns
 returns c =
-    let a = c .before .before .before .before .args in
-    let is = c .ceiling .ensures ∙ ap (ceilingOf (a .counts)) (c .before .union .ensures) in
-    (is ∙ ap (λ (b : Bool). writersWeight (a .counts) b (a .may-read) (a .may-write)) (sym (c .before .before .if1 .taken) ∙ c .before .before .before .shares-with-none .ensures), omega (arith, is))
-
-returns-2 : tie.Need-returns-2
-returns-2 c =
     let a = c .before .before .before .args in
-    let is = c .ceiling2 .ensures in
-    (is ∙ ap (λ (b : Bool). writersWeight (a .counts) b (a .may-read) (a .may-write)) (sym (c .before .if1 .left) ∙ c .before .before .shares-with-none .ensures), omega (arith, is))
+    let of-none : Bool → ℕ = (λ b. if b then union (a .may-read) (a .may-write) else a .may-write) in
+    let set : c .before .if1 .declared ≡ of-none (c .before .before .shares-with-none .result) = elim (c .before .if1 .came) [
+      | inl t ↦ t .2 ∙ t .1 .ensures ∙ ap of-none (sym (t .0 .taken))
+      | inr t ↦ t .1 ∙ ap of-none (sym (t .0 .left))
+    ] in
+    let is = c .ceiling .ensures ∙ ap (ceilingOf (a .counts)) (set ∙ ap of-none (c .before .before .shares-with-none .ensures)) in
+    (is ∙ weight-of (a .counts) (eqb (a .counts .version) 1 || marked (now (a .certified)) (a .object)) (a .may-read) (a .may-write), omega (arith, c .ceiling .ensures))
 
 pub write-weight-spec : {M : Type 1} → statement M
 write-weight-spec =
-    tie.close
-    (tie.spec
-    shares-with-none-requires
-    union-requires
-    ceiling-requires
-    ceiling-requires-2
-    returns
-    returns-2)
+    tie.close (tie.spec shares-with-none-requires union-requires ceiling-requires returns)

@@ -1,0 +1,114 @@
+-- Version 2: a job that finishes has no write lock that is not certified, by refusal 25, and an event keeps the version. So the theory says of any events
+-- from a fresh state of version 2 that a run that finishes has certified every write lock that it was granted.
+-- Assumes nothing.
+use mathlib.Core.Path.{_≡_, refl, subst, ap, _∙_}
+use mathlib.Core.Logic.{_≢_}
+use mathlib.Core.Bool.{Bool, true, false, not, _||_}
+use Prim.Native.Nat.{ℕ, zero, suc, _+_}
+use native.Mathlib.Omega.{arith}
+use lib.Dec.{eqb}
+use borrow.Author.Tests.{ne-eqb, not-false}
+use Rattle.basics.specs.Choice.{if_then_else_, clash, between}
+use Rattle.basics.specs.Loops.{every-at}
+use Rattle.state.specs.declared.Counts.{Counts}
+use Rattle.state.specs.declared.State.{State}
+use Rattle.state.specs.State.{mostObjects, read, write, holds, isCertified, sharesWithNone, activate, await, grant, release, endRun}
+use Rattle.state.specs.Facts.{Facts}
+use Rattle.state.specs.WellFormedFacts.{held-object}
+use Rattle.weights.specs.Keys.{noWeight, lowestKey}
+use Rattle.rule.specs.Granting.{passesBelow, wakeable}
+use Rattle.refusals.specs.Refusals.{isRequest, modeOf, allCertified, refusal}
+use Rattle.refusals.specs.AcceptedEvent.{AcceptedEvent, not-refused}
+use Rattle.events.specs.declared.Outcome.{Outcome}
+use Rattle.events.specs.Answers.{Paper, paper}
+use Rattle.events.specs.Events.{requestMeeting, woken, wake, accepted}
+use Rattle.manager.specs.Step.{step, step-refused}
+use Rattle.theory.specs.Lists.{Manages, MovesModes, CertifiesWrites}
+use Rattle.promises.specs.Terms.{isGranted, isWaits, isDone, happened, next, label}
+use Rattle.promises.specs.View.{view}
+use Rattle.promises.specs.LockModes.{modeIf, heldMode, modes, unwritten-mode}
+use Rattle.promises.specs.ReachedStates.{manages, moves-modes}
+
+-- ---- an event keeps the table's counts, the version among them
+
+either-way : {A B : Type 0} (f : A → B) (b : Bool) {x y : A} {v : B} → f x ≡ v → f y ≡ v → f (if b then x else y) ≡ v
+either-way f true e g = e
+either-way f false e g = g
+
+woken-counts : (s : State) (w : ℕ) → woken s w .counts ≡ s .counts
+unfolding woken grant
+woken-counts s w = either-way (λ (t : State). t .counts) (eqb w 0) refl refl
+
+request-counts : (s : State) (m r o k : ℕ) → requestMeeting s m r o k .state .counts ≡ s .counts
+unfolding requestMeeting grant await
+request-counts s m r o k = either-way (λ (x : Outcome). x .state .counts) (passesBelow r k) refl refl
+
+accepted-counts : (s : State) (k r o : ℕ) → accepted s k r o .state .counts ≡ s .counts
+unfolding accepted wake activate release endRun
+accepted-counts s k r o =
+    let counts : Outcome → Counts = λ x. x .state .counts in
+    either-way counts (eqb k 1) refl
+    (either-way counts (isRequest k) (request-counts s (modeOf k) r o (lowestKey s r))
+    (either-way counts (eqb k 4) (woken-counts (release s r o) (wakeable (release s r o)))
+    (either-way counts (between 5 6 k) (woken-counts (endRun s r) (wakeable (endRun s r))) refl)))
+
+step-counts : (s : State) (k r o : ℕ) → step s k r o .state .counts ≡ s .counts
+unfolding step
+step-counts s k r o = either-way (λ (x : Outcome). x .state .counts) (eqb (refusal s k r o) 0) (accepted-counts s k r o) refl
+
+-- ---- a finish
+
+-- "25, on a version 2 table finish with a write lock not certified": where it does not refuse, no lock of the job is held to write and not certified
+not-25-modes : (s : State) → Facts s → s .counts .version ≡ 2 → (r : ℕ) → allCertified s r ≡ true → (o : ℕ) → heldMode s r o ≢ write
+unfolding allCertified
+not-25-modes s F second r all o = go (holds s write r o) refl (isCertified s o) refl
+  where
+    go : (writes : Bool) → holds s write r o ≡ writes → (marked : Bool) → isCertified s o ≡ marked → modeIf writes marked (holds s read r o) ≢ write
+    go true h true e q = omega arith
+    go true h false e q =
+        let object = held-object s F write r o h in
+        let fits = every-at (s .counts .objects) (λ p. not (holds s write r p) || sharesWithNone s p) o all (object .0) (object .1) in
+        clash (simp (h, e, ne-eqb (s .counts .version) 1 (λ z. omega arith)) at fits) refl
+    go false h marked e q = omega (arith, unwritten-mode marked (holds s read r o))
+
+-- an event whose label is that of a finish is of kind 5
+finish-kind : (k : ℕ) (p : Paper) → happened k p ≡ 5 → k ≡ 5
+finish-kind k p = go (isGranted p) (isWaits p) (isDone p) (isRequest k)
+  where
+    go : (granted waits done request : Bool) → (if granted then 2 else if waits then 3 else if done then (if request then 0 else k) else 0) ≡ 5 → k ≡ 5
+    go true waits done request e = absurd (omega arith)
+    go false true done request e = absurd (omega arith)
+    go false false true true e = absurd (omega arith)
+    go false false true false e = e
+    go false false false request e = absurd (omega arith)
+
+finish-modes : (s : State) → Facts s → s .counts .version ≡ 2 → (k r o : ℕ) → happened k (paper (step s k r o .answer)) ≡ 5
+    → (p : ℕ) → heldMode s r p ≢ write
+finish-modes s F second k r o done = go (refusal s k r o) refl
+  where
+    go : (n : ℕ) → refusal s k r o ≡ n → (p : ℕ) → heldMode s r p ≢ write
+    go zero e =
+        let A = subst (λ n. AcceptedEvent s n r o) (finish-kind k (paper (step s k r o .answer)) done) (not-refused s k r o e) in
+        not-25-modes s F second r (not-false (allCertified s r) (A .not-25))
+    go (suc n) e =
+        let answer = ap (λ (x : Outcome). happened k (paper (x .answer))) (step-refused s k r o (λ q. omega arith)) in
+        absurd (omega (arith, answer, done))
+
+-- ---- what the theory asks of the manager, in version 2
+
+abbrev pub Second : State → Type 0
+Second s = Facts s × (s .counts .version ≡ 2)
+
+pub manages-second : Manages next label view noWeight (mostObjects + 1) Second
+manages-second = record {
+  keeps = λ s e G.
+      (manages .keeps s e (G .0), ap (λ c. c .version) (step-counts s (e .kind) (e .rank) (e .object)) ∙ G .1);
+  steps = λ s e G. manages .steps s e (G .0);
+  seen = λ s G. manages .seen s (G .0);
+}
+
+pub moves-second : MovesModes next label view manages-second modes
+moves-second s e G = moves-modes s e (G .0)
+
+pub certifies-second : CertifiesWrites next label view manages-second modes
+certifies-second s e G = finish-modes s (G .0) (G .1) (e .kind) (e .rank) (e .object)
