@@ -77,7 +77,15 @@ fn grant_or_wait<'a>(
         E.outcome r (stateOf counts ps (now («may_read» .entry)) (now («may_write» .entry)) a u (now (readers .exit)) (now (writers .exit)) (now (certified .exit)) (now (request .exit)))
         ≡ E.request (stateOf counts ps (now («may_read» .entry)) (now («may_write» .entry)) a u (now (readers .entry)) (now (writers .entry)) (now (certified .entry)) (now (request .entry))) mode rank object) ⌝ }
 {
-    let key = weights::lowest_key(counts, may_read, may_write, readers, writers, certified, rank);
+    let key = weights::lowest_key(
+        counts,
+        may_read,
+        may_write,
+        readers,
+        writers,
+        certified,
+        rank,
+    );
     if rule::passes(rank, key) {
         grant(readers, writers, certified, request, mode, rank, object);
         return Answer::Granted;
@@ -172,7 +180,15 @@ fn certify<'a>(
         ≡ E.perform (stateOf counts ps (now («may_read» .entry)) (now («may_write» .entry)) active unlocked (now (readers .entry)) (now (writers .entry)) (now (certified .entry)) (now (request .entry))) 7 rank object) ⌝ }
 {
     let number = certify_refusal(
-        counts, may_write, active, unlocked, writers, certified, request, rank, object,
+        counts,
+        may_write,
+        active,
+        unlocked,
+        writers,
+        certified,
+        request,
+        rank,
+        object,
     );
     if number != 0 {
         return Answer::Refused(number);
@@ -206,7 +222,15 @@ fn wake<'a>(
         E.outcome r (stateOf counts ps (now («may_read» .entry)) (now («may_write» .entry)) a u (now (readers .exit)) (now (writers .exit)) (now (certified .exit)) (now (request .exit)))
         ≡ E.wake (stateOf counts ps (now («may_read» .entry)) (now («may_write» .entry)) a u (now (readers .entry)) (now (writers .entry)) (now (certified .entry)) (now (request .entry)))) ⌝ }
 {
-    let rank = rule::wakeable(counts, may_read, may_write, readers, writers, certified, request);
+    let rank = rule::wakeable(
+        counts,
+        may_read,
+        may_write,
+        readers,
+        writers,
+        certified,
+        request,
+    );
     if rank != 0 {
         let asked = request[(rank - 1) as usize];
         grant(
@@ -246,7 +270,15 @@ fn unlock<'a>(
         return Answer::Refused(number);
     }
     release(unlocked, readers, rank, object);
-    wake(counts, may_read, may_write, readers, writers, certified, request)
+    wake(
+        counts,
+        may_read,
+        may_write,
+        readers,
+        writers,
+        certified,
+        request,
+    )
 }
 
 // The job's run ends, with its locks and its request.
@@ -273,7 +305,15 @@ fn end_run<'a>(
     release_sets(readers, rank);
     release_sets(writers, rank);
     store_request(request, rank, 0);
-    wake(counts, may_read, may_write, readers, writers, certified, request)
+    wake(
+        counts,
+        may_read,
+        may_write,
+        readers,
+        writers,
+        certified,
+        request,
+    )
 }
 
 // Kinds 5 and 6: the job's run ends; an abandonment also ends that of a waiting job.
@@ -296,7 +336,16 @@ fn finish<'a>(
         E.outcome r (stateOf counts ps (now («may_read» .entry)) (now («may_write» .entry)) (now (active .exit)) (now (unlocked .exit)) (now (readers .exit)) (now (writers .exit)) (now (certified .exit)) (now (request .exit)))
         ≡ E.perform (stateOf counts ps (now («may_read» .entry)) (now («may_write» .entry)) (now (active .entry)) (now (unlocked .entry)) (now (readers .entry)) (now (writers .entry)) (now (certified .entry)) (now (request .entry))) kind rank object) ⌝ }
 {
-    let number = finish_refusal(counts, *active, writers, certified, request, kind, rank, object);
+    let number = finish_refusal(
+        counts,
+        *active,
+        writers,
+        certified,
+        request,
+        kind,
+        rank,
+        object,
+    );
     if number != 0 {
         return Answer::Refused(number);
     }

@@ -111,7 +111,15 @@ pub fn inherited_rank<'a>(
     requires { ⌜ (counts .jobs ≤ mostJobs) × (counts .objects ≤ mostObjects) × (1 ≤ rank) ⌝ }
     ensures { λ r. ⌜ r ≡ R.inheritedRank (waitsState counts (now («may_read» .entry)) (now («may_write» .entry)) (now (readers .entry)) (now (writers .entry)) (now (certified .entry)) (now (request .entry))) rank ⌝ }
 {
-    let named = named_locks(counts, may_read, may_write, readers, writers, certified, request);
+    let named = named_locks(
+        counts,
+        may_read,
+        may_write,
+        readers,
+        writers,
+        certified,
+        request,
+    );
     inherited_by(counts.jobs, &named, rank)
 }
 
@@ -174,7 +182,15 @@ pub fn running_rank<'a>(
     requires { ⌜ (counts .jobs ≤ mostJobs) × (counts .objects ≤ mostObjects) ⌝ }
     ensures { λ r. ⌜ r ≡ R.runningRank (runState counts (now («processor_of» .entry)) active (now («may_read» .entry)) (now («may_write» .entry)) (now (readers .entry)) (now (writers .entry)) (now (certified .entry)) (now (request .entry))) processor ⌝ }
 {
-    let named = named_locks(counts, may_read, may_write, readers, writers, certified, request);
+    let named = named_locks(
+        counts,
+        may_read,
+        may_write,
+        readers,
+        writers,
+        certified,
+        request,
+    );
     running_by(
         counts.jobs,
         &named,

@@ -36,13 +36,7 @@ pub fn kind_letter(version: u8, kind: u8) -> u8
         4 => b'U',
         5 => b'F',
         6 => b'A',
-        7 => {
-            if version == 1 {
-                b'?'
-            } else {
-                b'C'
-            }
-        }
+        7 => { if version == 1 { b'?' } else { b'C' } }
         0 | 8..=255 => b'?',
     }
 }

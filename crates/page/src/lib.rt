@@ -122,7 +122,15 @@ fn lay_page<'a>(
     ensures { λ _. ⌜ now (buf .exit) ≡ atFront (P.page (runState counts (now («processor_of» .entry)) active (now («may_read» .entry)) (now («may_write» .entry))
         (now (readers .entry)) (now (writers .entry)) (now (certified .entry)) (now (request .entry)))) (now (buf .entry)) ⌝ }
 {
-    let named = named_locks(counts, may_read, may_write, readers, writers, certified, request);
+    let named = named_locks(
+        counts,
+        may_read,
+        may_write,
+        readers,
+        writers,
+        certified,
+        request,
+    );
     let running = running_ranks(counts, &named, processor_of, active, request);
     lay_lines(buf, counts, &named, &running, processor_of, active, request);
 }

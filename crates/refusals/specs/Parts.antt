@@ -17,7 +17,7 @@ use Rattle.ranks.specs.Ranks.{member, unions}
 use Rattle.ranks.specs.UnionLaws.{member-unions}
 use Rattle.state.specs.declared.State.{State}
 use Rattle.state.specs.State.{read, write, certify, ofMode, isRank, isObject, declared, holders, holds, marked, isCertified, isActive, isWaiting}
-use Rattle.refusals.specs.Refusals.{modeOf, allCertified, eventRefusal}
+use Rattle.refusals.specs.Refusals.{allCertified, eventRefusal}
 
 -- 15 to 17 of rank r's request in mode m, by the set of those that have unlocked and the sets of the object
 abbrev pub rightRefusal : ℕ → ℕ → ℕ → ℕ → ℕ → ℕ → ℕ → ℕ

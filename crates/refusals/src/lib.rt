@@ -10,9 +10,9 @@ ghost use Rattle.basics.specs.Loops.{every};
 ghost use Rattle.state.specs.State.{mostJobs, mostObjects, stateOf};
 ghost use Rattle.refusals.specs.Refusals as R;
 ghost use Rattle.refusals.specs.Parts as P;
+use basics::smaller;
 use ranks::RankSet;
 use state::Counts;
-use basics::smaller;
 use state::JobRequests;
 use state::ObjectMarks;
 use state::Sets;
@@ -223,12 +223,7 @@ fn certified_between<'a>(
 
 // Whether each of so many objects that the rank writes is certified. The writers of eight are looked at together, and one by one only where the rank is among
 // them.
-fn all_certified<'a>(
-    objects: u8,
-    writers: Sets<'a>,
-    certified: &'a ObjectMarks,
-    rank: u8,
-) -> bool
+fn all_certified<'a>(objects: u8, writers: Sets<'a>, certified: &'a ObjectMarks, rank: u8) -> bool
     requires { ⌜ (objects ≤ mostObjects) × (1 ≤ rank) × (rank ≤ mostJobs) ⌝ }
     ensures { λ r. ⌜ r ≡ every objects (P.writtenWell (now (writers .entry)) (now (certified .entry)) rank) ⌝ }
 {

@@ -40,7 +40,15 @@ pub fn named_key<'a>(
     if request == 0 {
         return NO_KEY;
     }
-    let key = lowest_key(counts, may_read, may_write, readers, writers, certified, rank);
+    let key = lowest_key(
+        counts,
+        may_read,
+        may_write,
+        readers,
+        writers,
+        certified,
+        rank,
+    );
     if passes(rank, key) { NO_KEY } else { key }
 }
 
@@ -101,7 +109,16 @@ pub fn wakeable<'a>(
             let mut done: u8 = 0;
             while done < counts.objects {
                 done += 1;
-                let key = key_at(counts, may_read, may_write, readers, writers, certified, done, rank);
+                let key = key_at(
+                    counts,
+                    may_read,
+                    may_write,
+                    readers,
+                    writers,
+                    certified,
+                    done,
+                    rank,
+                );
                 if !passes(rank, key) {
                     continue 'search;
                 }

@@ -1,16 +1,15 @@
 -- The search through the objects of one word of a set: what is left of the word, and that each object before is written and not read.
 -- Assumes nothing.
 use mathlib.Core.Path.{_≡_, refl, sym, subst, ap, ap₂, _∙_}
-use mathlib.Core.Logic.{_≢_}
 use mathlib.Core.Bool.{Bool, true, false, not, _&&_, _||_}
 use mathlib.Core.List.{List}
-use Prim.Native.Nat.{ℕ, zero, suc, _+_, _-_, _^_, _≤_, _<_}
+use Prim.Native.Nat.{ℕ, _+_, _^_, _≤_, _<_}
 use native.Mathlib.Omega.{arith}
 use native.Mathlib.Decide.{ℕ-discrete}
 use lib.Dec.{eqb}
 use borrow.Author.Tests.{eqb-true}
 use Rattle.basics.specs.Choice.{clash, and-true, and-left, and-right}
-use Rattle.basics.specs.Loops.{every, every-at, every-true, every-false, every-same, every-split}
+use Rattle.basics.specs.Loops.{every, every-true, every-false, every-same, every-split}
 use Rattle.basics.specs.Arrays.{at}
 use Rattle.ranks.specs.Ranks.{isEmpty, member, without, first, union}
 use Rattle.ranks.specs.RankLaws.{member-empty, member-without-same, member-without-other, without-lt, first-there}

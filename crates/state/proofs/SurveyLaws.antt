@@ -13,12 +13,12 @@ use borrow.Author.Tests.{eqb-true, eq-eqb}
 use Rattle.basics.specs.Choice.{clash, same-test, and-true, and-left, and-right, or-right, between-true, inside-between}
 use Rattle.basics.specs.Loops.{every, every-at, every-true, every-split}
 use Rattle.basics.specs.Arrays.{at}
-use Rattle.ranks.specs.Ranks.{wordBits, isEmpty, member, union, common, minus, subset, disjoint, atMostOne, upTo, lessOne, unions}
+use Rattle.ranks.specs.Ranks.{wordBits, isEmpty, union, common, minus, subset, disjoint, atMostOne, upTo, lessOne, unions}
 use Rattle.ranks.specs.UnionLaws.{empty-union, empty-minus, unions-both, unions-split, unions-empty, unions-subset, subset-up-to, subset-le, empty-at-most-one}
 use Rattle.ranks.specs.LessOneLaws.{less-one-alone, less-one-at-most-one}
 use Rattle.state.specs.declared.State.{State}
 use Rattle.state.specs.declared.locks.Survey.{Survey}
-use Rattle.state.specs.State.{mostObjects, read, write, isObject, declared, declaredAny, holders, holdersAny, isCertified, sharesWithNone}
+use Rattle.state.specs.State.{mostObjects, read, write, isObject, declared, declaredAny, holders, holdersAny, isCertified}
 use Rattle.state.specs.WellFormed.{countsFit, processorsFit, declarationFits, declarationsFit, ofJobs, declaredOfJobs, aboveIdle, heldByActive, heldByRight, locksFit}
 use Rattle.state.specs.WellFormed.{lockedOnce, alone, writtenAlone, oneLockEach, writersAlone, waitsFit, marksFit, versionFits, certifyFits, certifiesFit, wellFormed}
 use Rattle.state.specs.Clauses.{Clauses, clauses, well-formed, counts-within}

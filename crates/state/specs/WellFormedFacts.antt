@@ -249,8 +249,7 @@ module _ (s : State) (z : Sized s) (w : wellFormed s ≡ true) where
             subset-le w (declared s write o) (and-right (subset (holders s read o) (declared s read o)) _
                 (every-at mostObjects (heldByRight s) o (and-right (every mostObjects (heldByActive s)) _ (C .locks)) a b)),
             declared-fact write o,
-          ) in
-          (
+          ) in (
             eqb-true (s .counts .version) 2 (and-left (eqb (s .counts .version) 2) _ t),
             (first (s .counts .jobs) w, first-member (s .counts .jobs) w (first-some (s .counts .jobs) w some small)),
           )

@@ -153,7 +153,15 @@ pub fn fits_sized<'a>(
         × Sized (stateOf counts (now («processor_of» .entry)) (now («may_read» .entry)) (now («may_write» .entry))
         active unlocked (now (readers .entry)) (now (writers .entry)) (now (certified .entry)) (now (request .entry))) ⌝ }
 {
-    have_lengths(processor_of, may_read, may_write, readers, writers, certified, request)
+    have_lengths(
+        processor_of,
+        may_read,
+        may_write,
+        readers,
+        writers,
+        certified,
+        request,
+    )
         & fits(
             counts,
             processor_of,

@@ -113,7 +113,10 @@ pub fn survey_objects<'a>(
         let locks = union(union_of(readers, i, 8), union_of(writers, i, 8));
         if !ranks::is_empty(locks) {
             held = union(held, locks);
-            wrong = union(wrong, block_wrong(alone, may_read, may_write, readers, writers, i));
+            wrong = union(
+                wrong,
+                block_wrong(alone, may_read, may_write, readers, writers, i),
+            );
         }
         i += 8;
     }

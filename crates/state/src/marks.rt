@@ -24,10 +24,7 @@ pub fn shares_with_none(version: u8, certified: &ObjectMarks, object: u8) -> boo
     requires { ⌜ (1 ≤ object) × (object ≤ mostObjects) ⌝ }
     ensures { λ r. ⌜ r ≡ (eqb version 1 || marked (now (certified .entry)) object) ⌝ }
 {
-    if version == 1 {
-        return true;
-    }
-    is_marked(certified, object)
+    (version == 1) | is_marked(certified, object)
 }
 
 // Whether each object in a word of a set, whose places stand behind an index, is written and not read.

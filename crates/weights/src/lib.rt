@@ -206,7 +206,16 @@ pub fn lowest_key<'a>(
     let mut done: u8 = 0;
     while done < objects {
         done += 1;
-        let key = key_at(counts, may_read, may_write, readers, writers, certified, done, rank);
+        let key = key_at(
+            counts,
+            may_read,
+            may_write,
+            readers,
+            writers,
+            certified,
+            done,
+            rank,
+        );
         lowest = lower(lowest, key);
     }
     lowest

@@ -5,7 +5,7 @@ use mathlib.Core.Path.{_≡_, sym, _∙_}
 use mathlib.Core.List.{List, []}
 use Prim.Native.Nat.{ℕ, _≤_}
 use native.Mathlib.Omega.{arith}
-use Rattle.basics.specs.Choice.{between-true, inside-between}
+use Rattle.basics.specs.Choice.{between-true}
 use Rattle.state.specs.declared.State.{State}
 use Rattle.state.specs.State.{mostJobs, mostObjects, stateOf}
 use Rattle.refusals.specs.Accepting.{accepted-numbers}

@@ -56,8 +56,11 @@ within-requires-2 c κs = search needs
 
 returns-3 : tie.Need-returns-3
 returns-3 c =
-    λ ps mr rs. sym (chain ((c .before .before .before .before .before .before)) ps mr rs ∙ simp (ne-eqb (c .before .before .before .before .before .before .args .counts .version) 1 (c .before .before .before .before .if1 .left), sym (c .before .before .before .within .ensures) ∙ not-false (c .before .before .before .within .result) (c .before .before .if2 .left),
-    sym (c .before .within2 .ensures) ∙ not-true (c .before .within2 .result) (c .if3 .taken)))
+    λ ps mr rs. sym (chain ((c .before .before .before .before .before .before)) ps mr rs ∙ simp (
+      ne-eqb (c .before .before .before .before .before .before .args .counts .version) 1 (c .before .before .before .before .if1 .left),
+      sym (c .before .before .before .within .ensures) ∙ not-false (c .before .before .before .within .result) (c .before .before .if2 .left),
+      sym (c .before .within2 .ensures) ∙ not-true (c .before .within2 .result) (c .if3 .taken),
+    ))
 
 set-of-requires : tie.Need-set-of-requires
 set-of-requires c κs = omega (arith, between-true 1 (c .before .before .before .before .before .before .args .counts .objects) (c .before .before .before .before .before .before .args .object) (sym (c .before .within2 .ensures) ∙ not-false (c .before .within2 .result) (c .if3 .left)), c .before .before .before .before .before .before .pre)
