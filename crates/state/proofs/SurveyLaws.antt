@@ -37,13 +37,6 @@ alone-apart rd wr h =
 pub shared-apart : (rd wr : ℕ) → isEmpty (union (common rd wr) (common wr (lessOne wr))) ≡ apart false rd wr
 shared-apart rd wr = empty-union (common rd wr) (common wr (lessOne wr)) ∙ ap (λ (t : Bool). disjoint rd wr && t) (less-one-at-most-one wr)
 
--- nothing is wrong with the object if and only if it is in order
-pub object-in-order : (none : Bool) (mr mw rd wr wrong : ℕ) → isEmpty wrong ≡ apart none rd wr
-    → isEmpty (union (union (minus rd mr) (minus wr mw)) wrong) ≡ inOrder none mr mw rd wr
-object-in-order none mr mw rd wr wrong e =
-    empty-union (union (minus rd mr) (minus wr mw)) wrong
-    ∙ ap₂ _&&_ (empty-union (minus rd mr) (minus wr mw) ∙ ap₂ _&&_ (empty-minus rd mr) (empty-minus wr mw)) e
-
 -- an object without locks is in order
 pub unlocked-in-order : (none : Bool) (mr mw rd wr : ℕ) → rd ≡ 0 → wr ≡ 0 → inOrder none mr mw rd wr ≡ true
 unlocked-in-order none mr mw rd wr r w =

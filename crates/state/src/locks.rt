@@ -1,11 +1,12 @@
 // What refusal 8 asks of the objects: those of the table in blocks of eight, and those outside it.
 ghost use mathlib.Core.Path.{_≡_};
+ghost use mathlib.Core.Bool.{true, false, _&&_};
 ghost use Prim.Native.Nat.{_+_, _-_, _≤_};
 ghost use Rattle.basics.specs.Arrays.{at};
 ghost use Rattle.basics.specs.Loops.{every};
-ghost use Rattle.ranks.specs.Ranks.{isEmpty, unions};
+ghost use Rattle.ranks.specs.Ranks.{isEmpty, subset, unions};
 ghost use Rattle.state.specs.State.{mostObjects};
-ghost use Rattle.state.specs.Survey.{apart, inOrder, blockSize, objectInOrder, allOf, Surveyed};
+ghost use Rattle.state.specs.Survey.{apart, blockSize, objectInOrder, allOf, Surveyed};
 use crate::Sets;
 use ranks::EMPTY;
 use ranks::RankSet;
@@ -18,38 +19,39 @@ pub struct Survey {
     pub wrong: RankSet,
 }
 
-// Empty if an object's write lock is alone; where write locks may be shared, if it is the only one and its holder does not read.
-fn sharing_wrong(alone: bool, readers: RankSet, writers: RankSet) -> RankSet
-    ensures { λ r. ⌜ isEmpty r ≡ apart alone readers writers ⌝ }
-{
-    if alone {
-        union(
-            ranks::minus(readers, ranks::less_one(writers)),
-            ranks::common(writers, ranks::less_one(union(readers, writers))),
-        )
-    } else {
-        union(
-            ranks::common(readers, writers),
-            ranks::common(writers, ranks::less_one(writers)),
-        )
-    }
-}
-
-// Empty if one object's locks have their rights, and a write lock is alone or, where it may be shared, the only one.
-fn object_wrong(
-    alone: bool,
+// The ranks that hold a lock on an object without the right to it.
+fn without_right(
     may_read: RankSet,
     may_write: RankSet,
     readers: RankSet,
     writers: RankSet,
 ) -> RankSet
-    ensures { λ r. ⌜ isEmpty r ≡ inOrder alone «may_read» «may_write» readers writers ⌝ }
+    ensures { λ r. ⌜ isEmpty r ≡ (subset readers «may_read» && subset writers «may_write») ⌝ }
 {
-    let without_right = union(
+    union(
         ranks::minus(readers, may_read),
         ranks::minus(writers, may_write),
-    );
-    union(without_right, sharing_wrong(alone, readers, writers))
+    )
+}
+
+// Empty if an object's write lock is alone.
+fn alone_wrong(readers: RankSet, writers: RankSet) -> RankSet
+    ensures { λ r. ⌜ isEmpty r ≡ apart true readers writers ⌝ }
+{
+    union(
+        ranks::minus(readers, ranks::less_one(writers)),
+        ranks::common(writers, ranks::less_one(union(readers, writers))),
+    )
+}
+
+// Empty if an object's write lock, which may be shared, is the only one, and its holder does not read.
+fn shared_wrong(readers: RankSet, writers: RankSet) -> RankSet
+    ensures { λ r. ⌜ isEmpty r ≡ apart false readers writers ⌝ }
+{
+    union(
+        ranks::common(readers, writers),
+        ranks::common(writers, ranks::less_one(writers)),
+    )
 }
 
 // The ranks in so many sets, from an index on.
@@ -66,7 +68,55 @@ pub fn union_of(sets: Sets, from: usize, count: usize) -> RankSet
     all
 }
 
-// Empty if each object of the block from an index on is in order.
+// Empty if each object of the block from an index on is in order, where write locks are alone.
+fn block_alone_wrong<'a>(
+    may_read: Sets<'a>,
+    may_write: Sets<'a>,
+    readers: Sets<'a>,
+    writers: Sets<'a>,
+    from: usize,
+) -> RankSet
+    requires { ⌜ from + blockSize ≤ mostObjects ⌝ }
+    ensures { λ r. ⌜ isEmpty r ≡ every blockSize (λ k. objectInOrder (now («may_read» .entry)) (now («may_write» .entry)) (now (readers .entry)) (now (writers .entry)) true (from + k)) ⌝ }
+{
+    let mut wrong = EMPTY;
+    let mut k = 0;
+    while k < 8 {
+        let i = from + k;
+        let reading = readers[i];
+        let writing = writers[i];
+        let rights = without_right(may_read[i], may_write[i], reading, writing);
+        wrong = union(wrong, union(rights, alone_wrong(reading, writing)));
+        k += 1;
+    }
+    wrong
+}
+
+// The same where write locks may be shared.
+fn block_shared_wrong<'a>(
+    may_read: Sets<'a>,
+    may_write: Sets<'a>,
+    readers: Sets<'a>,
+    writers: Sets<'a>,
+    from: usize,
+) -> RankSet
+    requires { ⌜ from + blockSize ≤ mostObjects ⌝ }
+    ensures { λ r. ⌜ isEmpty r ≡ every blockSize (λ k. objectInOrder (now («may_read» .entry)) (now («may_write» .entry)) (now (readers .entry)) (now (writers .entry)) false (from + k)) ⌝ }
+{
+    let mut wrong = EMPTY;
+    let mut k = 0;
+    while k < 8 {
+        let i = from + k;
+        let reading = readers[i];
+        let writing = writers[i];
+        let rights = without_right(may_read[i], may_write[i], reading, writing);
+        wrong = union(wrong, union(rights, shared_wrong(reading, writing)));
+        k += 1;
+    }
+    wrong
+}
+
+// Empty if each object of the block from an index on is in order, where write locks are alone or may be shared.
 fn block_wrong<'a>(
     alone: bool,
     may_read: Sets<'a>,
@@ -78,17 +128,11 @@ fn block_wrong<'a>(
     requires { ⌜ from + blockSize ≤ mostObjects ⌝ }
     ensures { λ r. ⌜ isEmpty r ≡ every blockSize (λ k. objectInOrder (now («may_read» .entry)) (now («may_write» .entry)) (now (readers .entry)) (now (writers .entry)) alone (from + k)) ⌝ }
 {
-    let mut wrong = EMPTY;
-    let mut k = 0;
-    while k < 8 {
-        let i = from + k;
-        wrong = union(
-            wrong,
-            object_wrong(alone, may_read[i], may_write[i], readers[i], writers[i]),
-        );
-        k += 1;
+    if alone {
+        block_alone_wrong(may_read, may_write, readers, writers, from)
+    } else {
+        block_shared_wrong(may_read, may_write, readers, writers, from)
     }
-    wrong
 }
 
 // What the objects of a table of so many objects, in which write locks are alone or may be shared, say together. Locks are looked at in whole blocks,
