@@ -29,6 +29,9 @@ pub fn lay_field(buf: &mut [u8], at: usize, number: u8) -> usize
 pub fn kind_letter(version: u8, kind: u8) -> u8
     ensures { λ r. ⌜ r ≡ kindLetter version kind ⌝ }
 {
+    if (version == 1) & (kind == 7) {
+        return b'?';
+    }
     match kind {
         1 => b'S',
         2 => b'R',
@@ -36,7 +39,7 @@ pub fn kind_letter(version: u8, kind: u8) -> u8
         4 => b'U',
         5 => b'F',
         6 => b'A',
-        7 => { if version == 1 { b'?' } else { b'C' } }
+        7 => b'C',
         0 | 8..=255 => b'?',
     }
 }

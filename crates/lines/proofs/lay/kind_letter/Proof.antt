@@ -1,12 +1,10 @@
--- `lines::lay::kind_letter` meets its contract: each arm's letter is its kind's; who is none of 0 to 7 is 8 or more.
+-- `lines::lay::kind_letter` meets its contract: each arm's letter is its kind's, 7 apart on version 1; who is none of 0 to 7 is 8 or more.
 -- Assumes nothing.
-use mathlib.Core.Path.{_≡_, sym, ap, _∙_}
-use mathlib.Core.Bool.{true, false}
-use borrow.Author.Tests.{eq-eqb, ne-eqb}
+use mathlib.Core.Path.{_≡_, sym, ap}
 use Prim.Native.Nat.{ℕ, suc, _≤_, zero-le}
 use native.Mathlib.Omega.{arith}
 use Rattle.lines.specs.Lines.{kindLetter}
-use Rattle.lines.specs.LineLaws.{other-kind, certify-letter}
+use Rattle.lines.specs.LineLaws.{other-kind, no-certify-letter, certify-letter}
 use Rattle.lines.proofs.lay.kind_letter.Statement.{statement}
 use Rattle.lines.proofs.lay.kind_letter.Tie as tie
 
@@ -14,37 +12,37 @@ past : (n k : ℕ) → n ≤ k → (k ≡ n → ⊥) → suc n ≤ k
 past n k h d = omega arith
 
 returns : tie.Need-returns
-returns c = sym (ap (kindLetter (c .before .args .version)) (c .match .keys1))
+returns c = no-certify-letter (c .before .args .version) (c .before .args .kind) (c .if1 .taken)
 
 returns-2 : tie.Need-returns-2
-returns-2 c = sym (ap (kindLetter (c .before .args .version)) (c .match .keys2))
+returns-2 c = sym (ap (kindLetter (c .before .before .args .version)) (c .match .keys1))
 
 returns-3 : tie.Need-returns-3
-returns-3 c = sym (ap (kindLetter (c .before .args .version)) (c .match .keys3))
+returns-3 c = sym (ap (kindLetter (c .before .before .args .version)) (c .match .keys2))
 
 returns-4 : tie.Need-returns-4
-returns-4 c = sym (ap (kindLetter (c .before .args .version)) (c .match .keys4))
+returns-4 c = sym (ap (kindLetter (c .before .before .args .version)) (c .match .keys3))
 
 returns-5 : tie.Need-returns-5
-returns-5 c = sym (ap (kindLetter (c .before .args .version)) (c .match .keys5))
+returns-5 c = sym (ap (kindLetter (c .before .before .args .version)) (c .match .keys4))
 
 returns-6 : tie.Need-returns-6
-returns-6 c = sym (ap (kindLetter (c .before .args .version)) (c .match .keys6))
+returns-6 c = sym (ap (kindLetter (c .before .before .args .version)) (c .match .keys5))
 
 returns-7 : tie.Need-returns-7
-returns-7 c = certify-letter (c .before .before .args .version) true (eq-eqb (c .before .before .args .version) 1 (c .if1 .taken)) ∙ sym (ap (kindLetter (c .before .before .args .version)) (c .before .match .keys7))
+returns-7 c = sym (ap (kindLetter (c .before .before .args .version)) (c .match .keys6))
 
 returns-8 : tie.Need-returns-8
-returns-8 c = certify-letter (c .before .before .args .version) false (ne-eqb (c .before .before .args .version) 1 (c .if1 .left)) ∙ sym (ap (kindLetter (c .before .before .args .version)) (c .before .match .keys7))
+returns-8 c = certify-letter (c .before .before .args .version) (c .before .before .args .kind) (c .before .if1 .left) (c .match .keys7)
 
 returns-9 : tie.Need-returns-9
-returns-9 c = sym (ap (kindLetter (c .before .args .version)) (c .match .keys8))
+returns-9 c = sym (ap (kindLetter (c .before .before .args .version)) (c .match .keys8))
 
 returns-10 : tie.Need-returns-10
 returns-10 c =
-    let k = c .before .args .kind in
+    let k = c .before .before .args .kind in
     let r = c .match .rest in
-    sym (other-kind (c .before .args .version) k (past 7 k (past 6 k (past 5 k (past 4 k (past 3 k (past 2 k (past 1 k (past 0 k zero-le
+    sym (other-kind (c .before .before .args .version) k (past 7 k (past 6 k (past 5 k (past 4 k (past 3 k (past 2 k (past 1 k (past 0 k zero-le
     (r .1)) (r .0 .0 .0 .0 .0 .0 .0 .1)) (r .0 .0 .0 .0 .0 .0 .1)) (r .0 .0 .0 .0 .0 .1)) (r .0 .0 .0 .0 .1)) (r .0 .0 .0 .1)) (r .0 .0 .1)) (r .0 .1)))
 
 pub kind-letter-spec : {M : Type 1} → statement M
