@@ -146,7 +146,7 @@ fn lock<'a>(
     if number != 0 {
         return Answer::Refused(number);
     }
-    grant_or_wait(
+    let answer = grant_or_wait(
         counts,
         may_read,
         may_write,
@@ -157,7 +157,8 @@ fn lock<'a>(
         kind - 1,
         rank,
         object,
-    )
+    );
+    answer
 }
 
 // Kind 7: the job's write lock becomes a certify lock, or the job waits for that and keeps its write lock.
@@ -193,7 +194,7 @@ fn certify<'a>(
     if number != 0 {
         return Answer::Refused(number);
     }
-    grant_or_wait(
+    let answer = grant_or_wait(
         counts,
         may_read,
         may_write,
@@ -204,7 +205,8 @@ fn certify<'a>(
         3,
         rank,
         object,
-    )
+    );
+    answer
 }
 
 // After kinds 4, 5 and 6: the most urgent waiting job whose request passes gets its lock.
