@@ -1,10 +1,9 @@
--- Version 2: a job that finishes has no write lock that is not certified, by refusal 25, and an event keeps the version. So the theory says of any events
--- from a fresh state of version 2 that a run that finishes has certified every write lock that it was granted.
+-- An event keeps the version; and in version 2 a job that finishes has no write lock that is not certified, by refusal 25.
 -- Assumes nothing.
-use mathlib.Core.Path.{_≡_, refl, subst, ap, _∙_}
+use mathlib.Core.Path.{_≡_, refl, subst, ap}
 use mathlib.Core.Logic.{_≢_}
 use mathlib.Core.Bool.{Bool, true, false, not, _||_}
-use Prim.Native.Nat.{ℕ, zero, suc, _+_}
+use Prim.Native.Nat.{ℕ, zero, suc}
 use native.Mathlib.Omega.{arith}
 use lib.Dec.{eqb}
 use borrow.Author.Tests.{ne-eqb, not-false}
@@ -12,10 +11,10 @@ use Rattle.basics.specs.Choice.{if_then_else_, clash, between}
 use Rattle.basics.specs.Loops.{every-at}
 use Rattle.state.specs.declared.Counts.{Counts}
 use Rattle.state.specs.declared.State.{State}
-use Rattle.state.specs.State.{mostObjects, read, write, holds, isCertified, sharesWithNone, activate, await, grant, release, endRun}
+use Rattle.state.specs.State.{read, write, holds, isCertified, sharesWithNone, activate, await, grant, release, endRun}
 use Rattle.state.specs.Facts.{Facts}
 use Rattle.state.specs.WellFormedFacts.{held-object}
-use Rattle.weights.specs.Keys.{noWeight, lowestKey}
+use Rattle.weights.specs.Keys.{lowestKey}
 use Rattle.rule.specs.Granting.{passesBelow, wakeable}
 use Rattle.refusals.specs.Refusals.{isRequest, modeOf, allCertified, refusal}
 use Rattle.refusals.specs.AcceptedEvent.{AcceptedEvent, not-refused}
@@ -23,11 +22,8 @@ use Rattle.events.specs.declared.Outcome.{Outcome}
 use Rattle.events.specs.Answers.{Paper, paper}
 use Rattle.events.specs.Events.{requestMeeting, woken, wake, accepted}
 use Rattle.manager.specs.Step.{step, step-refused}
-use Rattle.theory.specs.Lists.{Manages, MovesModes, CertifiesWrites}
-use Rattle.promises.specs.Terms.{isGranted, isWaits, isDone, happened, next, label}
-use Rattle.promises.specs.View.{view}
-use Rattle.promises.specs.LockModes.{modeIf, heldMode, modes, unwritten-mode}
-use Rattle.promises.specs.ReachedStates.{manages, moves-modes}
+use Rattle.promises.specs.Terms.{isGranted, isWaits, isDone, happened}
+use Rattle.promises.specs.LockModes.{modeIf, heldMode, unwritten-mode}
 
 -- ---- an event keeps the table's counts, the version among them
 
@@ -52,7 +48,7 @@ accepted-counts s k r o =
     (either-way counts (eqb k 4) (woken-counts (release s r o) (wakeable (release s r o)))
     (either-way counts (between 5 6 k) (woken-counts (endRun s r) (wakeable (endRun s r))) refl)))
 
-step-counts : (s : State) (k r o : ℕ) → step s k r o .state .counts ≡ s .counts
+pub step-counts : (s : State) (k r o : ℕ) → step s k r o .state .counts ≡ s .counts
 unfolding step
 step-counts s k r o = either-way (λ (x : Outcome). x .state .counts) (eqb (refusal s k r o) 0) (accepted-counts s k r o) refl
 
@@ -82,7 +78,7 @@ finish-kind k p = go (isGranted p) (isWaits p) (isDone p) (isRequest k)
     go false false true false e = e
     go false false false request e = absurd (omega arith)
 
-finish-modes : (s : State) → Facts s → s .counts .version ≡ 2 → (k r o : ℕ) → happened k (paper (step s k r o .answer)) ≡ 5
+pub finish-modes : (s : State) → Facts s → s .counts .version ≡ 2 → (k r o : ℕ) → happened k (paper (step s k r o .answer)) ≡ 5
     → (p : ℕ) → heldMode s r p ≢ write
 finish-modes s F second k r o done = go (refusal s k r o) refl
   where
@@ -93,22 +89,3 @@ finish-modes s F second k r o done = go (refusal s k r o) refl
     go (suc n) e =
         let answer = ap (λ (x : Outcome). happened k (paper (x .answer))) (step-refused s k r o (λ q. omega arith)) in
         absurd (omega (arith, answer, done))
-
--- ---- what the theory asks of the manager, in version 2
-
-abbrev pub Second : State → Type 0
-Second s = Facts s × (s .counts .version ≡ 2)
-
-pub manages-second : Manages next label view noWeight (mostObjects + 1) Second
-manages-second = record {
-  keeps = λ s e G.
-      (manages .keeps s e (G .0), ap (λ c. c .version) (step-counts s (e .kind) (e .rank) (e .object)) ∙ G .1);
-  steps = λ s e G. manages .steps s e (G .0);
-  seen = λ s G. manages .seen s (G .0);
-}
-
-pub moves-second : MovesModes next label view manages-second modes
-moves-second s e G = moves-modes s e (G .0)
-
-pub certifies-second : CertifiesWrites next label view manages-second modes
-certifies-second s e G = finish-modes s (G .0) (G .1) (e .kind) (e .rank) (e .object)

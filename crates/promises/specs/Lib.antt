@@ -14,6 +14,7 @@ pub mod NobodyAs65
 pub mod Nobody
 pub mod TableStates
 pub mod Finishing
+pub mod LocksApart
 pub mod HeldUp
 pub mod Promises
 pub mod Example

@@ -2,7 +2,7 @@
 -- nobody by the table, and write locks that stay, for tables of both versions, but the old rule for version 1; and what holds of version 2 alone.
 -- Their terms are in Terms.antt, for demand 3 in theory/specs/Words.antt and for write locks in theory/specs/WriteLocks.antt;
 -- the files between Terms.antt and this one prove them. The sentences in quotes are document 01's, or where it says so 02's. Assumes nothing.
-use mathlib.Core.Path.{_≡_, ap}
+use mathlib.Core.Path.{_≡_, refl, subst, ap}
 use mathlib.Core.Logic.{_≢_, _↔_}
 use mathlib.Core.Bool.{true, false}
 use mathlib.Core.List.{List, [], _∷_}
@@ -18,6 +18,7 @@ use Rattle.state.specs.State.{mostJobs, write, isObject, declared, declaredAny,
 use Rattle.state.specs.WellFormed.{wellFormed}
 use Rattle.state.specs.Facts.{Sized}
 use Rattle.state.specs.WellFormedFacts.{facts, facts-well-formed}
+use Rattle.table_bytes.specs.Bytes.{versionIn}
 use Rattle.table.specs.Reading.{readTable}
 use Rattle.table.specs.Fresh.{Fresh, read-fresh}
 use Rattle.rule.specs.Granting.{passes, wakeable}
@@ -30,11 +31,13 @@ use Rattle.questions.specs.Answers.{rankReply, namedReply, ceilingsReply}
 use Rattle.questions.specs.Questions.{askInheritedRank, askNamedLock, askCeilings, askRunning}
 use Rattle.theory.specs.Words.{Ends, Demand3}
 use Rattle.theory.specs.WriteLocks.{HoldsWrite, WriteLocksStay, WritesCertified}
+use Rattle.theory.specs.Arrows.{OneByOne, OneOrder, NeverTogether, GrantsFirst}
 use Rattle.theory.specs.Keeps.{none-passes}
 use Rattle.theory.specs.WritesStay.{write-kept}
-use Rattle.theory.specs.Lists.{stateAt, labelAt, demand3-of, writes-stay-of, writes-shown-of, writes-certified-of}
+use Rattle.theory.specs.Lists.{stateAt, labelAt, demand3-of, writes-stay-of, writes-shown-of, writes-certified-of, in-order-of}
+use Rattle.theory.specs.RunOrder.{InOrder}
 use Rattle.promises.specs.Terms.{Event, outcomeOf, next, label, named, Reached, fresh, after, oldRequest, AboveWriters, CeilingIs}
-use Rattle.promises.specs.TableStates.{read-sized}
+use Rattle.promises.specs.TableStates.{read-sized, read-version}
 use Rattle.promises.specs.View.{view}
 use Rattle.promises.specs.LockModes.{modes, write-mode, mode-write, certify-mode, mode-certify}
 use Rattle.promises.specs.Steps.{step-goes, done-kind}
@@ -42,7 +45,7 @@ use Rattle.promises.specs.ReachedStates.{kept, fresh-facts, fresh-view, 
 use Rattle.promises.specs.Waking.{blocked-not-woken, nobody-left}
 use Rattle.promises.specs.Requests.{granted-exactly, waits-for}
 use Rattle.promises.specs.OldRule.{one-request}
-use Rattle.promises.specs.Finishing.{manages-second, moves-second, certifies-second}
+use Rattle.promises.specs.LocksApart.{manages-version, moves-version, apart-version}
 use Rattle.promises.specs.HeldUp.{answer-certified, named-certified}
 use Rattle.promises.specs.NobodyAs65.{ceiling65, oldRequest65, step65, askInheritedRank65, askNamedLock65, askCeilings65, askRunning65}
 use Rattle.promises.specs.Nobody.{old-request-same, step-same, ask-inherited-same, ask-named-same, ask-running-same, ask-ceilings-are, ask-ceilings-64}
@@ -192,7 +195,7 @@ write-locks-kept s z w e j o goes-on held =
 -- in words that are read off the events and their answers (theory/specs/WriteLocks.antt).
 pub finish-certified : (s : State) → Sized s → Fresh s → s .counts .version ≡ 2 → (es : List Event) → WritesCertified (labelAt next label s es)
 finish-certified s z f second es =
-    writes-certified-of next label view manages-second modes moves-second certifies-second s (fresh-facts z f, second) (fresh-view z f) es
+    writes-certified-of next label view (manages-version 2) modes (moves-version 2) (apart-version 2) refl s (fresh-facts z f, second) (fresh-view z f) es
 
 -- A request of a job more urgent than every declared writer of an object is never held up by a write lock on that object: in any well-formed state
 -- of version 2, handed in or reached, a write lock that holds it up, h's on object o, is certified.
@@ -209,3 +212,35 @@ module _ (s : State) (sized : Sized s) (well : wellFormed s ≡ true) (second : 
       → AboveWriters s j o → holds s write h o ≡ true → isCertified s o ≡ true
   writers-keep-nobody-waiting j h o waits reply above held =
       named-certified s (facts s sized well) second j h o above held (eqb-false (requestOf s j) 0 (not-true (eqb (requestOf s j) 0) waits)) reply
+
+-- ---- FINISHED RUNS AS IF ONE BY ONE
+-- 02, CR 7: "Wanted, for any events from a fresh state: of two finished runs granted conflicting locks on one object, exactly one has an arrow
+-- to the other; following arrows never leads back; and ordering the runs that were granted a lock by their last grant agrees with every arrow."
+-- In words that are read off the events and their answers (theory/specs/Arrows.antt), with the conflicting locks of the table's version.
+module _ (s : State) (sized : Sized s) (start : Fresh s) (es : List Event) where
+  in-order : InOrder (labelAt next label s es) (s .counts .version)
+  in-order =
+      let v = s .counts .version in
+      in-order-of next label view (manages-version v) modes (moves-version v) (apart-version v) s (fresh-facts sized start, refl) (fresh-view sized start) es
+
+  pub one-by-one : OneByOne (labelAt next label s es) (s .counts .version)
+  one-by-one = in-order .one-by-one
+
+  -- So there is one order of the finished runs such that of any two that conflict the earlier one released before the later one was granted.
+  pub one-order : OneOrder (labelAt next label s es) (s .counts .version)
+  one-order = in-order .one-order
+
+  -- It is so because conflicting locks on one object are never held together, and no run is granted a lock once it has released one:
+  -- two facts of any run, finished or not.
+  pub never-together : NeverTogether (labelAt next label s es) (s .counts .version)
+  never-together = in-order .never-together
+
+  pub grants-first : GrantsFirst (labelAt next label s es) (s .counts .version)
+  grants-first = in-order .grants-first
+
+-- The reader returns such a state for each table that it accepts, and its version is the table's.
+pub table-one-by-one : (b : List ℕ) → readTable b .refusal ≡ 0 → (es : List Event)
+    → OneByOne (labelAt next label (readTable b .state) es) (versionIn b)
+table-one-by-one b ok es =
+    subst (OneByOne (labelAt next label (readTable b .state) es)) (read-version b ok)
+    (one-by-one (readTable b .state) (read-sized b ok) (read-fresh b ok) es)

@@ -42,6 +42,8 @@ use Rattle.promises.specs.Waking.{woken-wakes, woken-modes}
 pub record Goes (s : State) (l : Label) (t : State) : Type 0 where
   pub step : Step noWeight (view s) l (view t)
   pub moves : ModeStep (view s) (modes s) l (modes t)
+  -- what is granted was asked for as the refusals allow
+  pub granted : l .what ≡ 2 → RequestFacts s (l .mode) (l .job) (l .object)
 
 -- ---- the rules
 
@@ -60,6 +62,7 @@ module _ (s : State) (F : Facts s) (r : ℕ) (low : 1 ≤ r) (high : r ≤ s .co
         start-step r o (λ x p. weight-frame s (activate s r) x p (record { locks = λ m. refl; certified = λ h. refl })) (λ x. refl) (ap asNumber idle) active
         (λ x. elim (ℕ-discrete r x) [ yes e ↦ inr e | no d ↦ inl (active-frame s (activate s r) x (activate-same s r x d)) ]) (λ x. refl);
     moves = nothing-modes 1 r o (omega arith) (λ x. refl) (λ x p. refl);
+    granted = λ e. absurd (omega arith);
   }
     where
       active : asNumber (isActive (activate s r) r) ≢ 0
@@ -84,6 +87,7 @@ module _ (s : State) (F : Facts s) (r : ℕ) (low : 1 ≤ r) (high : r ≤ s .co
           grant-modes r o m (given-grant s F r low high m o A (no-conflict s F r low high m o A e))
           (λ x p. elim (grant-locks s F r m o A x p) [ inl same ↦ inl (mode-frame s (grant s m r o) x p same) | inr own ↦ inr own ])
           (λ x. ap modeOfRequest (same-requests x));
+      granted = λ q. A;
     }
       where
         same-requests : (x : ℕ) → requestOf (grant s m r o) x ≡ requestOf s x
@@ -104,6 +108,7 @@ module _ (s : State) (F : Facts s) (r : ℕ) (low : 1 ≤ r) (high : r ≤ s .co
           wait-modes r o m (ap modeOfRequest (await-request s F r m o A) ∙ omega (arith, object-fits s F r m o A))
           (λ x. elim (ℕ-discrete r x) [ yes q ↦ inr q | no d ↦ inl (asked-frame s (await s m r o) x (await-same s r m o x d)) ])
           (λ x p. refl);
+      granted = λ q. absurd (omega arith);
     }
 
     request-goes : (k : ℕ) → m ≡ modeOf k → Goes s (labelOf k r o (paper (request s m r o .answer))) (request s m r o .state)
@@ -144,6 +149,7 @@ module _ (s : State) (F : Facts s) (r : ℕ) (low : 1 ≤ r) (high : r ≤ s .co
             (omega arith) (λ l e. woke .waited l (ap (requestedObject s) e ∙ free none)) (λ x. inl refl)
             (λ x p. elim (locks x p) [ inl l ↦ inl (mode-frame s (release s r o) x p l) | inr own ↦ inr (inl (omega arith)) ])
             (λ x. inl refl) (λ e. read-mode (holds s write r o) (isCertified s o) (holds s read r o) held unwritten);
+        granted = λ e. absurd (omega arith);
       }
     where
       marked : asNumber (hasUnlocked (release s r o) r) ≢ 0
@@ -175,6 +181,7 @@ module _ (s : State) (F : Facts s) (r : ℕ) (low : 1 ≤ r) (high : r ≤ s .co
             (λ x p. elim (end-locks s F r x p) [ inl l ↦ inl (mode-frame s (endRun s r) x p l) | inr own ↦ inr (inr (ends x own)) ])
             (λ x. elim (ℕ-discrete r x) [ yes e ↦ inr (ends x e) | no d ↦ inl (asked-frame s (endRun s r) x (same x d)) ])
             (λ e. absurd (omega arith));
+        granted = λ e. absurd (omega arith);
       }
     where
       ends : (x : ℕ) → r ≡ x → Ends (labelled what r o 0 (wakeable (endRun s r))) x
@@ -215,7 +222,11 @@ step-goes s F k r o = go (refusal s k r o) refl
     go (suc n) e =
         subst (λ b. OutcomeGoes s k r o (if b then accepted s k r o else outcome (Refused (suc n)) s))
         (sym (ne-eqb (suc n) 0 (λ q. omega arith)))
-        (record { step = refused-step (view s) r o; moves = nothing-modes 0 r o (omega arith) (λ x. refl) (λ x p. refl) })
+        (record {
+          step = refused-step (view s) r o;
+          moves = nothing-modes 0 r o (omega arith) (λ x. refl) (λ x p. refl);
+          granted = λ q. absurd (omega arith);
+        })
 
 -- an event of kinds 4 to 6 that is answered done has its kind in its label
 pub done-kind : (k : ℕ) (p : Paper) → between 4 6 k ≡ true → p .number ≡ 3 → 4 ≤ happened k p

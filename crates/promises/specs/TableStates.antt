@@ -1,7 +1,7 @@
--- The states that the table reader returns for accepted bytes have arrays of their lengths.
+-- The states that the table reader returns for accepted bytes have arrays of their lengths, and the version that the bytes say.
 -- That these states are fresh is shown in table/specs/Fresh.antt.
 -- Assumes nothing.
-use mathlib.Core.Path.{_≡_, sym, subst, _∙_}
+use mathlib.Core.Path.{_≡_, sym, subst, ap, _∙_}
 use mathlib.Core.List.{List}
 use Prim.Native.Nat.{ℕ, _-_}
 use native.Mathlib.Omega.{arith}
@@ -9,7 +9,7 @@ use lib.ListN.{length, take, drop, length-append, length-take, length-drop, leng
 use Rattle.state.specs.State.{mostJobs, read, write, mostObjects, markWords, zeros}
 use Rattle.state.specs.Facts.{Sized}
 use Rattle.table.specs.declared.TableRead.{TableRead}
-use Rattle.table_bytes.specs.Bytes.{jobsIn, entryCount}
+use Rattle.table_bytes.specs.Bytes.{versionIn, jobsIn, entryCount}
 use Rattle.table_bytes.specs.Refusals.{tableRefusal}
 use Rattle.table.specs.Reading.{processorsOf, tableState, readTable}
 use Rattle.table_bytes.specs.AcceptedTable.{AcceptedTable, accepted-table}
@@ -47,3 +47,7 @@ pub read-sized : (b : List ℕ) → readTable b .refusal ≡ 0 → Sized (readTa
 read-sized b e =
     let ok : tableRefusal b ≡ 0 = sym (read-refusal b) ∙ e in
     subst (λ (r : TableRead). Sized (r .state)) (sym (read-accepted b ok)) (table-sized b (accepted-table b ok))
+
+pub read-version : (b : List ℕ) → readTable b .refusal ≡ 0 → readTable b .state .counts .version ≡ versionIn b
+unfolding tableState
+read-version b e = ap (λ (r : TableRead). r .state .counts .version) (read-accepted b (sym (read-refusal b) ∙ e))

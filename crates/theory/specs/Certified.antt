@@ -9,20 +9,25 @@ use native.Mathlib.Omega.{arith}
 use native.Mathlib.Decide.{le-ind}
 use Rattle.theory.specs.Words.{Label, Run}
 use Rattle.theory.specs.WriteLocks.{GrantIn, WritesCertified}
-use Rattle.theory.specs.Machine.{View}
+use Rattle.theory.specs.Machine.{View, Releases}
 use Rattle.theory.specs.Links.{Trace, run-before, grant-run}
 use Rattle.theory.specs.Modes.{Modes, ModeStep, FinishesCertified}
-use Rattle.theory.specs.WritesStay.{grant-given, same-or-granted}
+use Rattle.theory.specs.HeldModes.{grant-given, same-or-granted}
+use Rattle.theory.specs.WritesStay.{not-unlocked}
 
 module _ {N : ℕ} {view : ℕ → View} {modes : ℕ → Modes} {label : ℕ → Label} (T : Trace N view label)
     (M : (i : ℕ) → ModeStep (view i) (modes i) (label i) (modes (suc i))) where
   -- one event of the run: the write lock stays, or it is the grant of the certify lock
   write-or-certify : (j k o t : ℕ) → Run label j k (suc t) → k < t → modes t .held j o ≡ 2
       → (modes (suc t) .held j o ≡ 2) ⊎ GrantIn label 3 j k o t
-  write-or-certify j k o t r after h = elim (same-or-granted T M j k o t r after (omega arith)) [
+  write-or-certify j k o t r after h = elim (same-or-granted T M j k o t (run-before label j k t (suc t) r after (omega arith)) stays) [
     | inl e ↦ inl (e ∙ h)
     | inr v ↦ (let G = grant-given T M j k o t v in inr (record { grant = v; in-mode = omega (arith, G .mode, G .stronger) }))
   ]
+    where
+      stays : ¬ Releases (label t) j o
+      stays (inl u) = not-unlocked (M t) j o (omega arith) u
+      stays (inr e) = r .not-ended t after (omega arith) e
 
   pub trace-writes-certified : ((i : ℕ) → FinishesCertified (modes i) (label i)) → WritesCertified label
   trace-writes-certified finishes j k o g f F v l = elim (since f l (F .run)) [

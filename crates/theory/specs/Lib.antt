@@ -2,13 +2,19 @@
 -- and what change request 6 makes of a run that finishes; Lists has the theorems.
 pub mod Words
 pub mod WriteLocks
+pub mod Arrows
 pub mod Machine
 pub mod Keeps
 pub mod Links
 pub mod Demand
 pub mod Build
 pub mod Modes
+pub mod HeldModes
 pub mod WritesStay
 pub mod Certified
+pub mod ConflictLaws
+pub mod LastLocks
+pub mod RunOrder
 pub mod Lists
 pub mod Key
+pub mod ArrowExample

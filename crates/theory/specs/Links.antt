@@ -7,7 +7,8 @@ use native.Mathlib.Omega.{arith}
 use native.Mathlib.Decide.{ℕ-discrete, decLt}
 use Rattle.theory.specs.Words.{Label, Starts, Waits, Unlocks, Ends, Wakens, Never, Run, Pending, by-that-answer, after-waits, Grant, Holds}
 use Rattle.theory.specs.Machine.{View, Releases, TurnsWait, Step, Invariant, FreshView, fresh-invariant}
-use Rattle.theory.specs.Keeps.{ends-kind, Takes, takes-took, took-or-kept, wakens-waited, wait-over, began-wait, takes-may, step-invariant, takes-stays, held-on}
+use Rattle.theory.specs.Keeps.{ends-kind, Takes, takes-took, took-or-kept, wakens-waited, wait-over, began-wait, takes-may}
+use Rattle.theory.specs.Keeps.{step-invariant, takes-stays, takes-one, held-on}
 
 -- ---- intervals
 
@@ -83,6 +84,18 @@ grant-run label j k o i v = elim (v .granted) [
   | by-that-answer e g ↦ subst (Run label j k) e (v .request .run)
   | after-waits p w ↦ p .run
 ]
+
+-- a lock that the event does not release stays held
+pub holds-on : (label : ℕ → Label) (j k o t : ℕ) → Holds label j k o t → ¬ Releases (label t) j o → Holds label j k o (suc t)
+holds-on label j k o t h n =
+    record {
+      first = h .first;
+      before = omega (arith, h .before);
+      grant = h .grant;
+      none-earlier = h .none-earlier;
+      not-unlocked = extend (λ i. Unlocks (label i) j o) (h .not-unlocked) (λ u. n (inl u));
+      run = run-on label j k t (h .run) (λ e. n (inr e));
+    }
 
 -- events from a fresh state: event i is a step from the state at time i to the one at time i + 1
 pub record Trace (N : ℕ) (view : ℕ → View) (label : ℕ → Label) : Type 0 where
@@ -240,6 +253,50 @@ module _ {N : ℕ} {view : ℕ → View} {label : ℕ → Label} (T : Trace N vi
         },
       )
 
+  -- what a job takes while its run goes on is a grant of that run
+  pub takes-own : (j k o t : ℕ) → Run label j k t → Takes (view t) (label t) j o → Grant label j k o t
+  takes-own j k o t r x =
+      let v = takes-grant j o t x in
+      subst (λ n. Grant label j n o t) (one-run j (v .0) k t (grant-run label j (v .0) o t (v .1)) r) (v .1)
+
+  -- an event is a grant to one run at most
+  pub one-taker : (j k o j' k' o' g : ℕ) → Grant label j k o g → Grant label j' k' o' g → k ≡ k'
+  one-taker j k o j' k' o' g v v' =
+      let e = takes-one (T .step g) j o j' o' (grant-takes j k o g v) (grant-takes j' k' o' g v') in
+      one-run j k k' g (grant-run label j k o g v) (subst (λ i. Run label i k' g) (sym e) (grant-run label j' k' o' g v'))
+
+  -- so grants of two different runs are at different events
+  pub grants-apart : (j k o j' k' o' g g' : ℕ) → k ≢ k' → Grant label j k o g → Grant label j' k' o' g' → (g < g') ⊎ (g' < g)
+  grants-apart j k o j' k' o' g g' d v v' = elim (decLt g g') [
+    | yes l ↦ inl l
+    | no l ↦ elim (decLt g' g) [
+      | yes l' ↦ inr l'
+      | no l' ↦ (let e : g ≡ g' = omega arith in absurd (d (one-taker j k o j' k' o' g' (subst (Grant label j k o) e v) v')))
+    ]
+  ]
+
+  -- a run is granted nothing from the event on that releases one of its locks
+  pub granted-earlier : (j k o i p g : ℕ) → Run label j k i → Releases (label i) j o → Grant label j k p g → g < i
+  granted-earlier j k o i p g r u v = elim (decLt g i) [
+    | yes l ↦ l
+    | no l ↦ elim (ℕ-discrete i g) [
+      | yes e ↦ absurd (takes-stays (T .step g) j p o x (subst (λ n. Releases (label n) j o) e u))
+      | no d ↦ absurd (later (omega arith) u)
+    ]
+  ]
+    where
+      x : Takes (view g) (label g) j p
+      x = grant-takes j k p g v
+
+      goes-on : Run label j k g
+      goes-on = grant-run label j k p g v
+
+      later : i < g → ¬ Releases (label i) j o
+      later l (inl z) =
+          unlocked-on j o i g l z (λ n a b. goes-on .not-ended n (omega (arith, r .begun)) b)
+          (takes-may (T .step g) (invariant g) j p x .not-unlocked)
+      later l (inr e) = goes-on .not-ended i (r .begun) l e
+
   -- a lock that was granted and not released is held
   pub grant-held : (j k o g t : ℕ) → g < t → Grant label j k o g → Never (λ i. Releases (label i) j o) g t
       → view t .weight j o < N
@@ -275,18 +332,7 @@ module _ {N : ℕ} {view : ℕ → View} {label : ℕ → Label} (T : Trace N vi
   held-holds j o (suc t) h = go (held-holds j o t) (decLt (view t .weight j o) N) (took-or-kept (T .step t) j o h)
     where
       more : ¬ Releases (label t) j o → (k : ℕ) × Holds label j k o t → (k : ℕ) × Holds label j k o (suc t)
-      more n x =
-          let h = x .1 in (
-            x .0,
-            record {
-              first = h .first;
-              before = omega (arith, h .before);
-              grant = h .grant;
-              none-earlier = h .none-earlier;
-              not-unlocked = extend (λ i. Unlocks (label i) j o) (h .not-unlocked) (λ u. n (inl u));
-              run = run-on label j (x .0) t (h .run) (λ e. n (inr e));
-            },
-          )
+      more n h = (h .0, holds-on label j (h .0) o t (h .1) n)
 
       go : (view t .weight j o < N → (k : ℕ) × Holds label j k o t) → Dec (view t .weight j o < N)
           → Takes (view t) (label t) j o ⊎ ((view t .weight j o ≡ view (suc t) .weight j o) × (¬ Releases (label t) j o))

@@ -1,6 +1,6 @@
--- Demand 3, change request 1 and what change request 6 makes of a run that finishes, of a manager, for any list of events from a fresh state:
--- shown from what the manager shows of one state and one event (Manages; for the change requests also MovesModes, and for the last CertifiesWrites).
-use mathlib.Core.Path.{refl}
+-- Demand 3, change requests 1 and 7 and what change request 6 makes of a run that finishes, of a manager, for any list of events from a fresh state:
+-- shown from what the manager shows of one state and one event (Manages; for the change requests also MovesModes, and for 6 and 7 KeepsLocksApart).
+use mathlib.Core.Path.{_≡_, refl}
 use mathlib.Core.List.{List, [], _∷_}
 use Prim.Native.Nat.{ℕ, zero, suc, _≤_}
 use native.Mathlib.Omega.{arith}
@@ -10,9 +10,10 @@ use Rattle.theory.specs.Machine.{View, Step, Seen, FreshView}
 use Rattle.theory.specs.Links.{Trace}
 use Rattle.theory.specs.Demand.{trace-demand3}
 use Rattle.theory.specs.Build.{labelled, refused-step}
-use Rattle.theory.specs.Modes.{Modes, ModeStep, FinishesCertified, nothing-modes}
+use Rattle.theory.specs.Modes.{Modes, ModeStep, KeepsApart, nothing-modes, refused-apart}
 use Rattle.theory.specs.WritesStay.{written, trace-writes-stay}
 use Rattle.theory.specs.Certified.{trace-writes-certified}
+use Rattle.theory.specs.RunOrder.{InOrder, trace-in-order}
 
 -- "An event in it is any three bytes, of any kind or none,
 -- and gets the state that the event before it returned, refused or not."
@@ -65,9 +66,9 @@ module _ {State Event : Type 0} (next : State → Event → State) (label : Stat
         abbrev pub MovesModes : Type 0
         MovesModes = (s : State) (e : Event) → Good s → ModeStep (view s) (modes s) (label s e) (modes (next s e))
 
-        -- and where from a good state no job finishes with a write lock that is not certified
-        abbrev pub CertifiesWrites : Type 0
-        CertifiesWrites = (s : State) (e : Event) → Good s → FinishesCertified (modes s) (label s e)
+        -- and on tables of one version: it keeps conflicting locks apart
+        abbrev pub KeepsLocksApart : (version : ℕ) → Type 0
+        KeepsLocksApart version = (s : State) (e : Event) → Good s → KeepsApart version (view s) (modes s) (label s e)
 
         module _ (moves : MovesModes) where
           mode-step-at : (s : State) → Good s → (es : List Event) (t : ℕ)
@@ -85,17 +86,24 @@ module _ {State Event : Type 0} (next : State → Event → State) (label : Stat
           pub writes-shown-of : (s : State) → Good s → FreshView N (view s) → (es : List Event)
               → (j k o t : ℕ) → HoldsWrite (labelAt s es) j k o t → 2 ≤ modes (stateAt s es t) .held j o
           writes-shown-of s g F es j k o t h =
-              written {modes = λ t. modes (stateAt s es t)} (trace-of s g F es) (mode-step-at s g es)
-              j k o (h .last) t (h .grant) (h .to-write) (h .before) (h .holds .run)
+              written {modes = λ t. modes (stateAt s es t)} (trace-of s g F es) (mode-step-at s g es) j k o t h
 
-          -- and CHANGE REQUEST 6 of a run that finishes
-          module _ (certified : CertifiesWrites) where
-            finish-at : (s : State) → Good s → (es : List Event) (t : ℕ) → FinishesCertified (modes (stateAt s es t)) (labelAt s es t)
-            finish-at s g [] zero = λ a. absurd (omega arith)
-            finish-at s g [] (suc t) = λ a. absurd (omega arith)
-            finish-at s g (e ∷ es) zero = certified s e g
-            finish-at s g (e ∷ es) (suc t) = finish-at (next s e) (G .keeps s e g) es t
+          module _ {version : ℕ} (apart : KeepsLocksApart version) where
+            apart-at : (s : State) → Good s → (es : List Event) (t : ℕ)
+                → KeepsApart version (view (stateAt s es t)) (modes (stateAt s es t)) (labelAt s es t)
+            apart-at s g [] zero = refused-apart version (view s) (modes s) 0 0
+            apart-at s g [] (suc t) = refused-apart version (view s) (modes s) 0 0
+            apart-at s g (e ∷ es) zero = apart s e g
+            apart-at s g (e ∷ es) (suc t) = apart-at (next s e) (G .keeps s e g) es t
 
-            pub writes-certified-of : (s : State) → Good s → FreshView N (view s) → (es : List Event) → WritesCertified (labelAt s es)
-            writes-certified-of s g F es =
-                trace-writes-certified {modes = λ t. modes (stateAt s es t)} (trace-of s g F es) (mode-step-at s g es) (finish-at s g es)
+            -- CHANGE REQUEST 6 of a run that finishes
+            pub writes-certified-of : version ≡ 2 → (s : State) → Good s → FreshView N (view s) → (es : List Event)
+                → WritesCertified (labelAt s es)
+            writes-certified-of second s g F es =
+                trace-writes-certified {modes = λ t. modes (stateAt s es t)} (trace-of s g F es) (mode-step-at s g es)
+                (λ t. apart-at s g es t .finish second)
+
+            -- CHANGE REQUEST 7
+            pub in-order-of : (s : State) → Good s → FreshView N (view s) → (es : List Event) → InOrder (labelAt s es) version
+            in-order-of s g F es =
+                trace-in-order {modes = λ t. modes (stateAt s es t)} (trace-of s g F es) (mode-step-at s g es) (apart-at s g es)

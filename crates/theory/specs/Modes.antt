@@ -2,7 +2,7 @@
 -- Modes are numbers, 0 none, 1 read, 2 write, 3 certify: a stronger one is a greater number.
 use mathlib.Core.Path.{_≡_, refl, sym, subst, _∙_}
 use mathlib.Core.Logic.{_≢_, _⊎_, inl, inr}
-use Prim.Native.Nat.{ℕ, _≤_, _<_}
+use Prim.Native.Nat.{ℕ, suc, _≤_, _<_}
 use native.Mathlib.Omega.{arith}
 use Rattle.theory.specs.Words.{Label, Grants, Ends, Wakens}
 use Rattle.theory.specs.Machine.{View, Releases, TurnsWait}
@@ -42,6 +42,16 @@ pub record ModeStep (s : View) (u : Modes) (l : Label) (u' : Modes) : Type 0 whe
 abbrev pub FinishesCertified : Modes → Label → Type 0
 FinishesCertified u l = l .what ≡ 5 → (o : ℕ) → u .held (l .job) o ≢ 2
 
+-- and on tables of one version: which modes there are, and beside which locks of others none is given
+pub record KeepsApart (version : ℕ) (s : View) (u : Modes) (l : Label) : Type 0 where
+  -- up to write in version 1, to certify in version 2
+  pub mode : (x o m : ℕ) → Gives s u l x o m → m ≤ suc version
+  -- Each lock of another job r on the object weighs at least as urgent as job x, to which a lock is given. But a read lock is given beside read locks,
+  -- and in version 2 beside a write lock that is not certified.
+  pub meets : (x o m r : ℕ) → Gives s u l x o m → r ≢ x → 0 < u .held r o → (2 ≤ m) ⊎ (version < u .held r o) → s .weight r o ≤ x
+  -- "25, on a version 2 table finish with a write lock not certified"
+  pub finish : version ≡ 2 → FinishesCertified u l
+
 -- ---- one law for each kind of event: what a manager shows of its own rules so that the event is a ModeStep
 
 -- the search for a waiting job: m and v are what is seen once the locks are released, w the woken rank or 0
@@ -49,6 +59,13 @@ pub record WokeModes (m : View) (v : Modes) (w : ℕ) (u' : Modes) : Type 0 wher
   pub gave : 0 < w → Given (v .held) (u' .held) w (m .requested w) (v .asked w)
   pub held-same : (r p : ℕ) → (u' .held r p ≡ v .held r p) ⊎ ((0 < r) × (w ≡ r) × (m .requested r ≡ p))
   pub asked-same : (x : ℕ) → (u' .asked x ≡ v .asked x) ⊎ ((0 < x) × (w ≡ x))
+
+-- a refused event gives nothing
+pub refused-apart : (version : ℕ) (s : View) (u : Modes) (j o : ℕ) → KeepsApart version s u (labelled 0 j o 0 0)
+refused-apart version s u j o =
+    let none : (x p m : ℕ) → ¬ Gives s u (labelled 0 j o 0 0) x p m =
+    λ x p m g. elim g [ inl a ↦ omega (arith, a .0) | inr a ↦ omega (arith, a .0) ] in
+    record { mode = λ x p m g. absurd (none x p m g); meets = λ x p m r g. absurd (none x p m g); finish = λ e a. absurd (omega arith) }
 
 module _ {s : View} {u u' : Modes} where
   -- an event that gives and releases nothing

@@ -10,6 +10,15 @@ module _ (label : ℕ → Label) where
     pub grant : Grant label j k o i
     pub in-mode : label (grant .asked) .mode ≡ m
 
+  -- The run of job j that event k began holds a lock of mode m on object o at time t: it holds a lock there,
+  -- and its last grant there, event `last`, was in that mode.
+  pub record HoldsIn (m j k o t : ℕ) : Type 0 where
+    pub holds : Holds label j k o t
+    pub last : ℕ
+    pub before : last < t
+    pub grant : GrantIn m j k o last
+    pub none-later : Never (λ i. Grant label j k o i) last t
+
   -- ---- CR 1
 
   -- The run of job j that event k began holds a write or certify lock on object o at time t: it holds a lock there,
