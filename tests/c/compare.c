@@ -1,13 +1,15 @@
 /* Compares the library with the model (model.c) on random tables, events, states (inputs.c), questions, state pages and test loads (compare_loads.c), lists
- * of events with single events too, and state pages with the questions. Prints which answers came (occurred.c), how many calls agreed and how many did not.
+ * of events with single events too, and state pages with the questions; and checks that finished runs are as if one by one (arrows.c). Prints which answers
+ * came (occurred.c), how many calls agreed and how many did not.
  * Usage: compare [TABLES [EVENTS [SEED]]]: 1,000 tables, 220 events on each. Each event is one call; so is each table, part, state and question,
  * each list of events, once for every place where it is cut, each state page, once for every length of the buffer, each line of it beside the questions,
  * each ceiling beside nobody's, each test load, once for every length of the buffer and for every place where it is split, each event of it that is sent,
- * and each name of the header. */
+ * each pair of locks in conflict, each arrow, and each name of the header. */
 #include <stdio.h>
 #include <stdlib.h>
 #include <string.h>
 
+#include "arrows.h"
 #include "checks.h"
 #include "compare_loads.h"
 #include "inputs.h"
@@ -253,11 +255,10 @@ static void check_pages_occurred(int tables)
 
 /* ---- Events */
 
-/* A random event on both, and the whole state compared after it. */
-static void compare_event(vongselik_state *s, model *m)
+/* An event on both, and the whole state compared after it. Gives the library's answer. */
+static vongselik_answer compare_event(vongselik_state *s, model *m, event e)
 {
     vongselik_state before = *s;
-    event e = any_event(s);
     vongselik_answer a = vongselik_event(s, e.kind, e.rank, e.object);
     vongselik_answer b = model_event(m, e.kind, e.rank, e.object);
     int same = a.answer == b.answer && a.holder == b.holder && a.object == b.object && a.reason == b.reason && a.woken == b.woken
@@ -265,6 +266,7 @@ static void compare_event(vongselik_state *s, model *m)
     if (a.answer == VONGSELIK_REFUSED && memcmp(&before, s, sizeof before)) same = 0;
     check(same, "event");
     count_event(&before, e, b);
+    return a;
 }
 
 /* ---- States handed in */
@@ -281,7 +283,7 @@ static void compare_handed_in(const vongselik_state *handed)
     for (i = 0; i < 4; i++) {
         s = *handed;
         model_from(&m, &s);
-        compare_event(&s, &m);
+        compare_event(&s, &m, any_event(&s));
     }
     compare_questions(&s, &m, below(4) == 0);
     if (below(4) == 0) compare_writing(&s, &m, below(3) ? (size_t)LONGEST : (size_t)below(400));
@@ -396,8 +398,10 @@ static void compare_table(int events)
     compare_last_object(&s);
     model_from(&m, &s);
     compare_page(&s, &m);
+    begin_runs(s.version);
     for (i = 0; i < events; i++) {
-        compare_event(&s, &m);
+        event e = any_event(&s);
+        note_event(e, compare_event(&s, &m, e));
         if (i % 4 == 0) compare_questions(&s, &m, i % 16 == 0);
         if (i % 6) continue;
         compare_page(&s, &m);
@@ -406,6 +410,7 @@ static void compare_table(int events)
         for (k = below(4); k > 0; k--) mutate(&other);
         compare_handed_in(&other);
     }
+    check_arrows();
     compare_full_page(&s);
     compare_writing(&s, &m, LONGEST);
     compare_writing(&s, &m, used);
@@ -431,6 +436,7 @@ int main(int argc, char **argv)
     check_nobody_occurred(tables);
     check_pages_occurred(tables);
     check_loads_occurred(tables);
+    check_arrows_occurred(tables);
     check_answers_occurred(tables, events);
     return print_checks() ? 0 : 1;
 }

@@ -1,7 +1,8 @@
 -- The promises about the manager as a whole: demand 3, well-formed states, granting and naming, no second wake-up, the old rule on one processor,
--- nobody by the table, and write locks that stay, for tables of both versions, but the old rule for version 1; and what holds of version 2 alone.
--- Their terms are in Terms.antt, for demand 3 in theory/specs/Words.antt and for write locks in theory/specs/WriteLocks.antt;
--- the files between Terms.antt and this one prove them. The sentences in quotes are document 01's, or where it says so 02's. Assumes nothing.
+-- nobody by the table, and write locks that stay, for tables of both versions, but the old rule for version 1; what holds of version 2 alone;
+-- and finished runs as if one by one, for both. Their terms are in Terms.antt, for demand 3 in theory/specs/Words.antt, for write locks in
+-- theory/specs/WriteLocks.antt and for finished runs in theory/specs/Arrows.antt; the files between Terms.antt and this one prove them.
+-- The sentences in quotes are document 01's, or where it says so 02's. Assumes nothing.
 use mathlib.Core.Path.{_≡_, refl, subst, ap}
 use mathlib.Core.Logic.{_≢_, _↔_}
 use mathlib.Core.Bool.{true, false}
@@ -220,7 +221,7 @@ module _ (s : State) (sized : Sized s) (well : wellFormed s ≡ true) (second : 
 module _ (s : State) (sized : Sized s) (start : Fresh s) (es : List Event) where
   in-order : InOrder (labelAt next label s es) (s .counts .version)
   in-order =
-      let v = s .counts .version in
+      let v : ℕ = s .counts .version in
       in-order-of next label view (manages-version v) modes (moves-version v) (apart-version v) s (fresh-facts sized start, refl) (fresh-view sized start) es
 
   pub one-by-one : OneByOne (labelAt next label s es) (s .counts .version)
@@ -235,7 +236,7 @@ module _ (s : State) (sized : Sized s) (start : Fresh s) (es : List Event) where
   pub never-together : NeverTogether (labelAt next label s es) (s .counts .version)
   never-together = in-order .never-together
 
-  pub grants-first : GrantsFirst (labelAt next label s es) (s .counts .version)
+  pub grants-first : GrantsFirst (labelAt next label s es)
   grants-first = in-order .grants-first
 
 -- The reader returns such a state for each table that it accepts, and its version is the table's.

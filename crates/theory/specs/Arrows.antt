@@ -50,6 +50,15 @@ module _ (label : ℕ → Label) where
     pub grant : Grant label j k object g
     pub none-later : (o x : ℕ) → g < x → ¬ Grant label j k o x
 
+  -- The place of a run in the order of runs is its last grant, or its start if it was granted no lock.
+  pub data Place (j k p : ℕ) : Type 0 where
+    at-last-grant : LastGrant j k p → Place j k p
+    at-start : ((o g : ℕ) → ¬ Grant label j k o g) → k ≡ p → Place j k p
+
+  -- No run, finished or not, is granted a lock once it has released one.
+  abbrev pub GrantsFirst : Type 0
+  GrantsFirst = (m j k o i p g : ℕ) → Released m j k o i → Grant label j k p g → g < i
+
   module _ (version : ℕ) where
     -- "the first released a lock on an object before the second was granted a conflicting one there", "and a certify grant is a grant":
     -- the run of job j that event k began, and the run of job j' that event k' began, on object o
@@ -116,11 +125,6 @@ module _ (label : ℕ → Label) where
 
     -- ---- what follows: one order of the finished runs
 
-    -- The place of a run in it is its last grant, or its start if it was granted no lock.
-    pub data Place (j k p : ℕ) : Type 0 where
-      at-last-grant : LastGrant j k p → Place j k p
-      at-start : ((o g : ℕ) → ¬ Grant label j k o g) → k ≡ p → Place j k p
-
     pub record OneOrder : Type 0 where
       -- each finished run has a place, and one only,
       pub has-place : (j k : ℕ) → Finished j k → (p : ℕ) × Place j k p
@@ -132,12 +136,8 @@ module _ (label : ℕ → Label) where
       pub released-first : (j k j' k' o m n g h p p' : ℕ) → InConflict j k j' k' o m n g h → Place j k p → Place j' k' p' → p < p'
           → (r : ℕ) × (i : ℕ) × Released r j k o i × Before i h
 
-    -- ---- why it is so: two facts of any run, finished or not
+    -- ---- why it is so: GrantsFirst, and
 
-    -- conflicting locks on one object are never held together
+    -- that conflicting locks on one object are never held together, of any runs, finished or not
     abbrev pub NeverTogether : Type 0
     NeverTogether = (j k j' k' o m n t : ℕ) → k ≢ k' → HoldsIn label m j k o t → HoldsIn label n j' k' o t → ¬ Conflict version m n
-
-    -- no run is granted a lock once it has released one
-    abbrev pub GrantsFirst : Type 0
-    GrantsFirst = (m j k o i p g : ℕ) → Released m j k o i → Grant label j k p g → g < i

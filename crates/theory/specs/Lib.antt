@@ -1,5 +1,5 @@
--- The files in the order in which they build on one another. Words alone states demand 3, and WriteLocks, in its words, change request 1
--- and what change request 6 makes of a run that finishes; Lists has the theorems.
+-- The files in the order in which they build on one another. Words alone states demand 3; in its words WriteLocks states change request 1 and what
+-- change request 6 makes of a run that finishes, and Arrows change request 7; Lists has the theorems. ArrowExample draws an arrow.
 pub mod Words
 pub mod WriteLocks
 pub mod Arrows

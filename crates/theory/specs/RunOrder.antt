@@ -22,19 +22,19 @@ pub record InOrder (label : ℕ → Label) (version : ℕ) : Type 0 where
   pub one-by-one : OneByOne label version
   pub one-order : OneOrder label version
   pub never-together : NeverTogether label version
-  pub grants-first : GrantsFirst label version
+  pub grants-first : GrantsFirst label
 
 module _ {N version : ℕ} {view : ℕ → View} {modes : ℕ → Modes} {label : ℕ → Label} (T : Trace N view label)
     (M : (i : ℕ) → ModeStep (view i) (modes i) (label i) (modes (suc i)))
     (K : (i : ℕ) → KeepsApart version (view i) (modes i) (label i)) where
-  trace-grants-first : GrantsFirst label version
+  trace-grants-first : GrantsFirst label
   trace-grants-first m j k o i p g r v = granted-earlier T j k o i p g (r .held .holds .run) (r .unlock-or-end) v
 
   -- ---- two runs in conflict
 
   -- the last locks of the two there conflict too
-  first-yields : {j k j' k' o m n g h : ℕ} → InConflict label version j k j' k' o m n g h → g < h → ReleasedBefore label version j k j' k' o
-  first-yields {j} {k} {j'} {k'} {o} {m} {n} {g} {h} C l =
+  released-there : {j k j' k' o m n g h : ℕ} → InConflict label version j k j' k' o m n g h → g < h → ReleasedBefore label version j k j' k' o
+  released-there {j} {k} {j'} {k'} {o} {m} {n} {g} {h} C l =
       let L = last-lock T M K m j k o g (C .first-finished) (C .first-granted) in
       let L' = last-lock T M K n j' k' o h (C .second-finished) (C .second-granted) in
       let later : h ≤ L' .released .held .last =
@@ -59,7 +59,7 @@ module _ {N version : ℕ} {view : ℕ → View} {modes : ℕ → Modes} {label 
     from-finished = C .first-finished;
     to-finished = C .second-finished;
     object = o;
-    there = first-yields C l;
+    there = released-there C l;
   }
 
   -- one of the two was granted its lock first
@@ -170,17 +170,17 @@ module _ {N version : ℕ} {view : ℕ → View} {modes : ℕ → Modes} {label 
     | inr w ↦ omega (arith, wakens-waited (T .step t) j (w .0))
   ]
 
-  has-place : (j k : ℕ) → Finished label j k → (p : ℕ) × Place label version j k p
+  has-place : (j k : ℕ) → Finished label j k → (p : ℕ) × Place label j k p
   has-place j k F = elim (last-or-none j k F) [ inl x ↦ (x .0, at-last-grant (x .1)) | inr none ↦ (k, at-start none refl) ]
 
-  one-place : (j k p p' : ℕ) → Place label version j k p → Place label version j k p' → p ≡ p'
+  one-place : (j k p p' : ℕ) → Place label j k p → Place label j k p' → p ≡ p'
   one-place j k p p' (at-last-grant a) (at-last-grant b) =
       omega (arith, last-least a (b .object) p' (b .grant), last-least b (a .object) p (a .grant))
   one-place j k p p' (at-last-grant a) (at-start none e) = absurd (none (a .object) p (a .grant))
   one-place j k p p' (at-start none e) (at-last-grant b) = absurd (none (b .object) p' (b .grant))
   one-place j k p p' (at-start none e) (at-start none' e') = sym e ∙ e'
 
-  places-differ : (j k j' k' p : ℕ) → k ≢ k' → Finished label j k → Finished label j' k' → Place label version j k p → ¬ Place label version j' k' p
+  places-differ : (j k j' k' p : ℕ) → k ≢ k' → Finished label j k → Finished label j' k' → Place label j k p → ¬ Place label j' k' p
   places-differ j k j' k' p d F F' (at-last-grant a) (at-last-grant b) = d (one-taker T j k (a .object) j' k' (b .object) p (a .grant) (b .grant))
   places-differ j k j' k' p d F F' (at-last-grant a) (at-start none e) =
       start-grants-none j' j k (a .object) p (subst (λ t. Starts (label t) j') e (F' .finishes .run .starts)) (a .grant)
@@ -188,23 +188,23 @@ module _ {N version : ℕ} {view : ℕ → View} {modes : ℕ → Modes} {label 
       start-grants-none j j' k' (b .object) p (subst (λ t. Starts (label t) j) e (F .finishes .run .starts)) (b .grant)
   places-differ j k j' k' p d F F' (at-start none e) (at-start none' e') = d (e ∙ sym e')
 
-  one-earlier : (j k j' k' p p' : ℕ) → k ≢ k' → Finished label j k → Finished label j' k' → Place label version j k p → Place label version j' k' p'
+  one-earlier : (j k j' k' p p' : ℕ) → k ≢ k' → Finished label j k → Finished label j' k' → Place label j k p → Place label j' k' p'
       → (p < p') ⊎ (p' < p)
   one-earlier j k j' k' p p' d F F' x y = elim (decLt p p') [
     | yes l ↦ inl l
     | no l ↦ elim (decLt p' p) [
       | yes l' ↦ inr l'
-      | no l' ↦ (let e : p' ≡ p = omega arith in absurd (places-differ j k j' k' p d F F' x (subst (Place label version j' k') e y)))
+      | no l' ↦ (let e : p' ≡ p = omega arith in absurd (places-differ j k j' k' p d F F' x (subst (Place label j' k') e y)))
     ]
   ]
 
   -- the place of a run that was granted a lock
-  place-last : {j k p : ℕ} → Place label version j k p → (o g : ℕ) → Grant label j k o g → LastGrant label j k p
+  place-last : {j k p : ℕ} → Place label j k p → (o g : ℕ) → Grant label j k o g → LastGrant label j k p
   place-last (at-last-grant a) o g v = a
   place-last (at-start none e) o g v = absurd (none o g v)
 
   released-first : (j k j' k' o m n g h p p' : ℕ) → InConflict label version j k j' k' o m n g h
-      → Place label version j k p → Place label version j' k' p' → p < p' → (r : ℕ) × (i : ℕ) × Released label r j k o i × (i ≤ h)
+      → Place label j k p → Place label j' k' p' → p < p' → (r : ℕ) × (i : ℕ) × Released label r j k o i × (i ≤ h)
   released-first j k j' k' o m n g h p p' C x y l = elim (one-first C) [
     | inl a ↦ (let L = last-lock T M K m j k o g (C .first-finished) (C .first-granted) in (L .mode, L .release, L .released, released-before T M K C a))
     | inr a ↦

@@ -13,7 +13,7 @@ pub record Label : Type 0 where
   pub what : ℕ
   pub job : ℕ
   pub object : ℕ
-  -- of the lock that a request asks for: 1 read, 2 write, 3 certify; 0 where the event is no request (WriteLocks uses it, demand 3 does not)
+  -- of the lock that a request asks for: 1 read, 2 write, 3 certify; 0 where the event is no request (WriteLocks and Arrows use it, demand 3 does not)
   pub mode : ℕ
   -- the woken rank that the answer gives, 0 if it gives none
   pub woken : ℕ
