@@ -1,16 +1,47 @@
--- An arrow, drawn: job 3 reads object 1 and then writes it, job 1 waits to read it, and job 3's finish releases its lock and wakes job 1, which finishes too.
--- The arrow goes from job 3's run to job 1's. It rests on "within one event the release comes before the woken grant"; and the write lock's grant, which
--- replaces the read lock, releases nothing.
+-- Which modes conflict, pair by pair; and an arrow, drawn. Job 3 reads object 1 and then writes it, job 1 waits to read it, and job 3's finish releases
+-- its lock and wakes job 1, which finishes too. The arrow goes from job 3's run to job 1's. It rests on "within one event the release comes before
+-- the woken grant"; and the write lock's grant, which replaces the read lock, releases nothing.
 use mathlib.Core.Path.{_≡_, refl}
 use mathlib.Core.Logic.{_≢_, inl, inr}
 use Prim.Native.Nat.{ℕ, zero, suc, _≤_, _<_}
 use native.Mathlib.Omega.{arith}
-use Rattle.theory.specs.Words.{Label, Ends, Run, by-that-answer, after-waits, Grant}
-use Rattle.theory.specs.WriteLocks.{GrantIn, HoldsIn}
-use Rattle.theory.specs.Arrows.{either-writes, Released, Arrow}
+use Rattle.theory.specs.Words.{Label, Ends, Run, by-that-answer, after-waits}
+use Rattle.theory.specs.WriteLocks.{GrantIn}
+use Rattle.theory.specs.Arrows.{Conflict, either-writes, one-of-three, Released, Arrow}
 use Rattle.theory.specs.Keeps.{ends-kind}
 use Rattle.theory.specs.Links.{run-before}
 use Rattle.theory.specs.Build.{labelled}
+use Rattle.theory.specs.ConflictLaws.{conflict-modes}
+
+-- ---- the pairs
+
+pub conflicting : Conflict 1 1 2 × Conflict 1 2 2 × Conflict 2 1 3 × Conflict 2 2 2 × Conflict 2 3 3
+conflicting = (
+  either-writes refl (inl (inl (refl, refl))),
+  either-writes refl (inr (inl (refl, refl))),
+  one-of-three refl (inl (inl (refl, refl))),
+  one-of-three refl (inr (inl (inl (refl, refl)))),
+  one-of-three refl (inr (inr (inl (refl, refl)))),
+)
+
+pub not-conflicting : (¬ Conflict 1 1 1) × (¬ Conflict 2 1 1) × (¬ Conflict 2 1 2) × (¬ Conflict 2 2 3)
+not-conflicting = (
+  λ c. omega (arith, conflict-modes c .2),
+  λ c. omega (arith, conflict-modes c .2),
+  λ c. omega (arith, conflict-modes c .2),
+  write-and-certify,
+)
+  where
+    write-and-certify : ¬ Conflict 2 2 3
+    write-and-certify (either-writes e c) = omega arith
+    write-and-certify (one-of-three e (inl (inl x))) = omega arith
+    write-and-certify (one-of-three e (inl (inr x))) = omega arith
+    write-and-certify (one-of-three e (inr (inl (inl x)))) = omega arith
+    write-and-certify (one-of-three e (inr (inl (inr x)))) = omega arith
+    write-and-certify (one-of-three e (inr (inr (inl x)))) = omega arith
+    write-and-certify (one-of-three e (inr (inr (inr x)))) = omega arith
+
+-- ---- the events
 
 abbrev pub drawn : ℕ → Label
 drawn zero = labelled 1 3 0 0 0

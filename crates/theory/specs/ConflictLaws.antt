@@ -13,7 +13,7 @@ pair-modes la lb (inl x) = omega arith
 pair-modes la lb (inr x) = omega arith
 
 -- modes that conflict are together at least read and the strongest of the version
-conflict-modes : {version m n : ℕ} → Conflict version m n → (1 ≤ m) × (1 ≤ n) × (version + 2 ≤ m + n)
+pub conflict-modes : {version m n : ℕ} → Conflict version m n → (1 ≤ m) × (1 ≤ n) × (version + 2 ≤ m + n)
 conflict-modes (either-writes e c) = elim c [
   | inl p ↦ (let x = pair-modes (omega arith) (omega arith) p in omega arith)
   | inr p ↦ (let x = pair-modes (omega arith) (omega arith) p in omega arith)
