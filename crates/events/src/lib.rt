@@ -47,9 +47,9 @@ pub struct Outcome {
 // Kind 1: the job becomes active.
 fn start(counts: Counts, active: &mut RankSet, rank: u8, object: u8) -> Answer
     requires { ⌜ counts .jobs ≤ mostJobs ⌝ }
-    ensures { λ r. ⌜ ((u : ℕ) (ps mr mw rs ws cs q : List ℕ) →
-        E.outcome r (stateOf counts ps mr mw (now (active .exit)) u rs ws cs q)
-        ≡ E.perform (stateOf counts ps mr mw (now (active .entry)) u rs ws cs q) 1 rank object) ⌝ }
+    ensures { λ r. ⌜ ((u z : ℕ) (ps mr mw rs ws cs q : List ℕ) →
+        E.outcome r (stateOf counts ps mr mw (now (active .exit)) u z rs ws cs q)
+        ≡ E.perform (stateOf counts ps mr mw (now (active .entry)) u z rs ws cs q) 1 rank object) ⌝ }
 {
     let number = start_refusal(counts, *active, rank, object);
     if number != 0 {
@@ -73,9 +73,9 @@ fn grant_or_wait<'a>(
     object: u8,
 ) -> Answer
     requires { ⌜ (counts .objects ≤ mostObjects) × (1 ≤ mode) × (mode ≤ certify) × (1 ≤ rank) × (rank ≤ mostJobs) × (1 ≤ object) × (object ≤ mostObjects) ⌝ }
-    ensures { λ r. ⌜ ((a u : ℕ) (ps : List ℕ) →
-        E.outcome r (stateOf counts ps (now («may_read» .entry)) (now («may_write» .entry)) a u (now (readers .exit)) (now (writers .exit)) (now (certified .exit)) (now (request .exit)))
-        ≡ E.request (stateOf counts ps (now («may_read» .entry)) (now («may_write» .entry)) a u (now (readers .entry)) (now (writers .entry)) (now (certified .entry)) (now (request .entry))) mode rank object) ⌝ }
+    ensures { λ r. ⌜ ((a u z : ℕ) (ps : List ℕ) →
+        E.outcome r (stateOf counts ps (now («may_read» .entry)) (now («may_write» .entry)) a u z (now (readers .exit)) (now (writers .exit)) (now (certified .exit)) (now (request .exit)))
+        ≡ E.request (stateOf counts ps (now («may_read» .entry)) (now («may_write» .entry)) a u z (now (readers .entry)) (now (writers .entry)) (now (certified .entry)) (now (request .entry))) mode rank object) ⌝ }
 {
     let key = weights::lowest_key(
         counts,
@@ -117,6 +117,7 @@ fn lock<'a>(
     may_write: Sets<'a>,
     active: RankSet,
     unlocked: RankSet,
+    sleeping: RankSet,
     readers: SetsMut,
     writers: SetsMut,
     certified: &mut ObjectMarks,
@@ -127,8 +128,8 @@ fn lock<'a>(
 ) -> Answer
     requires { ⌜ (counts .jobs ≤ mostJobs) × (counts .objects ≤ mostObjects) × (2 ≤ kind) × (kind ≤ 3) ⌝ }
     ensures { λ r. ⌜ ((ps : List ℕ) →
-        E.outcome r (stateOf counts ps (now («may_read» .entry)) (now («may_write» .entry)) active unlocked (now (readers .exit)) (now (writers .exit)) (now (certified .exit)) (now (request .exit)))
-        ≡ E.perform (stateOf counts ps (now («may_read» .entry)) (now («may_write» .entry)) active unlocked (now (readers .entry)) (now (writers .entry)) (now (certified .entry)) (now (request .entry))) kind rank object) ⌝ }
+        E.outcome r (stateOf counts ps (now («may_read» .entry)) (now («may_write» .entry)) active unlocked sleeping (now (readers .exit)) (now (writers .exit)) (now (certified .exit)) (now (request .exit)))
+        ≡ E.perform (stateOf counts ps (now («may_read» .entry)) (now («may_write» .entry)) active unlocked sleeping (now (readers .entry)) (now (writers .entry)) (now (certified .entry)) (now (request .entry))) kind rank object) ⌝ }
 {
     let number = lock_refusal(
         counts,
@@ -136,6 +137,7 @@ fn lock<'a>(
         may_write,
         active,
         unlocked,
+        sleeping,
         readers,
         writers,
         request,
@@ -168,6 +170,7 @@ fn certify<'a>(
     may_write: Sets<'a>,
     active: RankSet,
     unlocked: RankSet,
+    sleeping: RankSet,
     readers: SetsMut,
     writers: SetsMut,
     certified: &mut ObjectMarks,
@@ -177,14 +180,15 @@ fn certify<'a>(
 ) -> Answer
     requires { ⌜ (counts .jobs ≤ mostJobs) × (counts .objects ≤ mostObjects) ⌝ }
     ensures { λ r. ⌜ ((ps : List ℕ) →
-        E.outcome r (stateOf counts ps (now («may_read» .entry)) (now («may_write» .entry)) active unlocked (now (readers .exit)) (now (writers .exit)) (now (certified .exit)) (now (request .exit)))
-        ≡ E.perform (stateOf counts ps (now («may_read» .entry)) (now («may_write» .entry)) active unlocked (now (readers .entry)) (now (writers .entry)) (now (certified .entry)) (now (request .entry))) 7 rank object) ⌝ }
+        E.outcome r (stateOf counts ps (now («may_read» .entry)) (now («may_write» .entry)) active unlocked sleeping (now (readers .exit)) (now (writers .exit)) (now (certified .exit)) (now (request .exit)))
+        ≡ E.perform (stateOf counts ps (now («may_read» .entry)) (now («may_write» .entry)) active unlocked sleeping (now (readers .entry)) (now (writers .entry)) (now (certified .entry)) (now (request .entry))) 7 rank object) ⌝ }
 {
     let number = certify_refusal(
         counts,
         may_write,
         active,
         unlocked,
+        sleeping,
         writers,
         certified,
         request,
@@ -220,9 +224,9 @@ fn wake<'a>(
     request: &mut JobRequests,
 ) -> Answer
     requires { ⌜ (counts .jobs ≤ mostJobs) × (counts .objects ≤ mostObjects) × RequestsFit (now request) ⌝ }
-    ensures { λ r. ⌜ ((a u : ℕ) (ps : List ℕ) →
-        E.outcome r (stateOf counts ps (now («may_read» .entry)) (now («may_write» .entry)) a u (now (readers .exit)) (now (writers .exit)) (now (certified .exit)) (now (request .exit)))
-        ≡ E.wake (stateOf counts ps (now («may_read» .entry)) (now («may_write» .entry)) a u (now (readers .entry)) (now (writers .entry)) (now (certified .entry)) (now (request .entry)))) ⌝ }
+    ensures { λ r. ⌜ ((a u z : ℕ) (ps : List ℕ) →
+        E.outcome r (stateOf counts ps (now («may_read» .entry)) (now («may_write» .entry)) a u z (now (readers .exit)) (now (writers .exit)) (now (certified .exit)) (now (request .exit)))
+        ≡ E.wake (stateOf counts ps (now («may_read» .entry)) (now («may_write» .entry)) a u z (now (readers .entry)) (now (writers .entry)) (now (certified .entry)) (now (request .entry)))) ⌝ }
 {
     let rank = rule::wakeable(
         counts,
@@ -255,6 +259,7 @@ fn unlock<'a>(
     may_write: Sets<'a>,
     active: RankSet,
     unlocked: &mut RankSet,
+    sleeping: &mut RankSet,
     readers: SetsMut,
     writers: SetsMut,
     certified: &mut ObjectMarks,
@@ -264,8 +269,8 @@ fn unlock<'a>(
 ) -> Answer
     requires { ⌜ InRange counts (now request) ⌝ }
     ensures { λ r. ⌜ ((ps : List ℕ) →
-        E.outcome r (stateOf counts ps (now («may_read» .entry)) (now («may_write» .entry)) active (now (unlocked .exit)) (now (readers .exit)) (now (writers .exit)) (now (certified .exit)) (now (request .exit)))
-        ≡ E.perform (stateOf counts ps (now («may_read» .entry)) (now («may_write» .entry)) active (now (unlocked .entry)) (now (readers .entry)) (now (writers .entry)) (now (certified .entry)) (now (request .entry))) 4 rank object) ⌝ }
+        E.outcome r (stateOf counts ps (now («may_read» .entry)) (now («may_write» .entry)) active (now (unlocked .exit)) (now (sleeping .exit)) (now (readers .exit)) (now (writers .exit)) (now (certified .exit)) (now (request .exit)))
+        ≡ E.perform (stateOf counts ps (now («may_read» .entry)) (now («may_write» .entry)) active (now (unlocked .entry)) (now (sleeping .entry)) (now (readers .entry)) (now (writers .entry)) (now (certified .entry)) (now (request .entry))) 4 rank object) ⌝ }
 {
     let number = unlock_refusal(counts, active, readers, writers, request, rank, object);
     if number != 0 {
@@ -290,6 +295,7 @@ fn end_run<'a>(
     may_write: Sets<'a>,
     active: &mut RankSet,
     unlocked: &mut RankSet,
+    sleeping: &mut RankSet,
     readers: SetsMut,
     writers: SetsMut,
     certified: &mut ObjectMarks,
@@ -298,8 +304,8 @@ fn end_run<'a>(
 ) -> Answer
     requires { ⌜ (counts .jobs ≤ mostJobs) × (counts .objects ≤ mostObjects) × (1 ≤ rank) × (rank ≤ mostJobs) × RequestsFit (now request) ⌝ }
     ensures { λ r. ⌜ ((ps : List ℕ) →
-        E.outcome r (stateOf counts ps (now («may_read» .entry)) (now («may_write» .entry)) (now (active .exit)) (now (unlocked .exit)) (now (readers .exit)) (now (writers .exit)) (now (certified .exit)) (now (request .exit)))
-        ≡ E.finish (stateOf counts ps (now («may_read» .entry)) (now («may_write» .entry)) (now (active .entry)) (now (unlocked .entry)) (now (readers .entry)) (now (writers .entry)) (now (certified .entry)) (now (request .entry))) rank) ⌝ }
+        E.outcome r (stateOf counts ps (now («may_read» .entry)) (now («may_write» .entry)) (now (active .exit)) (now (unlocked .exit)) (now (sleeping .exit)) (now (readers .exit)) (now (writers .exit)) (now (certified .exit)) (now (request .exit)))
+        ≡ E.finish (stateOf counts ps (now («may_read» .entry)) (now («may_write» .entry)) (now (active .entry)) (now (unlocked .entry)) (now (sleeping .entry)) (now (readers .entry)) (now (writers .entry)) (now (certified .entry)) (now (request .entry))) rank) ⌝ }
 {
     *active = ranks::without(*active, rank);
     *unlocked = ranks::without(*unlocked, rank);
@@ -325,6 +331,7 @@ fn finish<'a>(
     may_write: Sets<'a>,
     active: &mut RankSet,
     unlocked: &mut RankSet,
+    sleeping: &mut RankSet,
     readers: SetsMut,
     writers: SetsMut,
     certified: &mut ObjectMarks,
@@ -335,8 +342,8 @@ fn finish<'a>(
 ) -> Answer
     requires { ⌜ InRange counts (now request) × (5 ≤ kind) × (kind ≤ 6) ⌝ }
     ensures { λ r. ⌜ ((ps : List ℕ) →
-        E.outcome r (stateOf counts ps (now («may_read» .entry)) (now («may_write» .entry)) (now (active .exit)) (now (unlocked .exit)) (now (readers .exit)) (now (writers .exit)) (now (certified .exit)) (now (request .exit)))
-        ≡ E.perform (stateOf counts ps (now («may_read» .entry)) (now («may_write» .entry)) (now (active .entry)) (now (unlocked .entry)) (now (readers .entry)) (now (writers .entry)) (now (certified .entry)) (now (request .entry))) kind rank object) ⌝ }
+        E.outcome r (stateOf counts ps (now («may_read» .entry)) (now («may_write» .entry)) (now (active .exit)) (now (unlocked .exit)) (now (sleeping .exit)) (now (readers .exit)) (now (writers .exit)) (now (certified .exit)) (now (request .exit)))
+        ≡ E.perform (stateOf counts ps (now («may_read» .entry)) (now («may_write» .entry)) (now (active .entry)) (now (unlocked .entry)) (now (sleeping .entry)) (now (readers .entry)) (now (writers .entry)) (now (certified .entry)) (now (request .entry))) kind rank object) ⌝ }
 {
     let number = finish_refusal(
         counts,
@@ -357,6 +364,7 @@ fn finish<'a>(
         may_write,
         active,
         unlocked,
+        sleeping,
         readers,
         writers,
         certified,
@@ -372,6 +380,7 @@ pub fn perform<'a>(
     may_write: Sets<'a>,
     active: &mut RankSet,
     unlocked: &mut RankSet,
+    sleeping: &mut RankSet,
     readers: SetsMut,
     writers: SetsMut,
     certified: &mut ObjectMarks,
@@ -382,8 +391,8 @@ pub fn perform<'a>(
 ) -> Answer
     requires { ⌜ InRange counts (now request) ⌝ }
     ensures { λ r. ⌜ ((ps : List ℕ) →
-        E.outcome r (stateOf counts ps (now («may_read» .entry)) (now («may_write» .entry)) (now (active .exit)) (now (unlocked .exit)) (now (readers .exit)) (now (writers .exit)) (now (certified .exit)) (now (request .exit)))
-        ≡ E.perform (stateOf counts ps (now («may_read» .entry)) (now («may_write» .entry)) (now (active .entry)) (now (unlocked .entry)) (now (readers .entry)) (now (writers .entry)) (now (certified .entry)) (now (request .entry))) kind rank object) ⌝ }
+        E.outcome r (stateOf counts ps (now («may_read» .entry)) (now («may_write» .entry)) (now (active .exit)) (now (unlocked .exit)) (now (sleeping .exit)) (now (readers .exit)) (now (writers .exit)) (now (certified .exit)) (now (request .exit)))
+        ≡ E.perform (stateOf counts ps (now («may_read» .entry)) (now («may_write» .entry)) (now (active .entry)) (now (unlocked .entry)) (now (sleeping .entry)) (now (readers .entry)) (now (writers .entry)) (now (certified .entry)) (now (request .entry))) kind rank object) ⌝ }
 {
     match kind {
         1 => start(counts, active, rank, object),
@@ -393,6 +402,7 @@ pub fn perform<'a>(
             may_write,
             *active,
             *unlocked,
+            *sleeping,
             readers,
             writers,
             certified,
@@ -407,6 +417,7 @@ pub fn perform<'a>(
             may_write,
             *active,
             unlocked,
+            sleeping,
             readers,
             writers,
             certified,
@@ -420,6 +431,7 @@ pub fn perform<'a>(
             may_write,
             active,
             unlocked,
+            sleeping,
             readers,
             writers,
             certified,
@@ -434,6 +446,7 @@ pub fn perform<'a>(
             may_write,
             *active,
             *unlocked,
+            *sleeping,
             readers,
             writers,
             certified,

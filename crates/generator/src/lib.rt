@@ -37,6 +37,7 @@ pub fn make_events(state: State, seed: u32, count: usize, buf: &mut [u8]) -> Mad
         &state.may_write,
         state.active,
         state.unlocked,
+        state.sleeping,
         &state.readers,
         &state.writers,
         &state.certified,
@@ -55,6 +56,7 @@ pub fn make_load<'a>(
     may_write: Sets<'a>,
     active: RankSet,
     unlocked: RankSet,
+    sleeping: RankSet,
     readers: Sets<'a>,
     writers: Sets<'a>,
     certified: &'a ObjectMarks,
@@ -64,9 +66,9 @@ pub fn make_load<'a>(
     buf: &mut [u8],
 ) -> Made
     ensures { λ r. ⌜ (r ≡ L.makeEvents (stateOf counts (now («processor_of» .entry)) (now («may_read» .entry)) (now («may_write» .entry))
-        active unlocked (now (readers .entry)) (now (writers .entry)) (now (certified .entry)) (now (request .entry))) seed count (now (buf .entry)))
+        active unlocked sleeping (now (readers .entry)) (now (writers .entry)) (now (certified .entry)) (now (request .entry))) seed count (now (buf .entry)))
         × (now (buf .exit) ≡ L.eventsMade (stateOf counts (now («processor_of» .entry)) (now («may_read» .entry)) (now («may_write» .entry))
-        active unlocked (now (readers .entry)) (now (writers .entry)) (now (certified .entry)) (now (request .entry))) seed count (now (buf .entry))) ⌝ }
+        active unlocked sleeping (now (readers .entry)) (now (writers .entry)) (now (certified .entry)) (now (request .entry))) seed count (now (buf .entry))) ⌝ }
 {
     let well = fits(
         counts,
@@ -75,6 +77,7 @@ pub fn make_load<'a>(
         may_write,
         active,
         unlocked,
+        sleeping,
         readers,
         writers,
         certified,

@@ -38,6 +38,7 @@ pub fn act_tested<'a>(
     may_write: Sets<'a>,
     active: &mut RankSet,
     unlocked: &mut RankSet,
+    sleeping: &mut RankSet,
     readers: SetsMut,
     writers: SetsMut,
     certified: &mut ObjectMarks,
@@ -46,9 +47,9 @@ pub fn act_tested<'a>(
     rank: u8,
     object: u8,
 ) -> Answer
-    requires { ⌜ wellFormed (stateOf counts (now «processor_of») (now «may_read») (now «may_write») (now active) (now unlocked) (now readers) (now writers) (now certified) (now request)) ≡ true ⌝ }
-    ensures { λ r. ⌜ outcome r (stateOf counts (now («processor_of» .entry)) (now («may_read» .entry)) (now («may_write» .entry)) (now (active .exit)) (now (unlocked .exit)) (now (readers .exit)) (now (writers .exit)) (now (certified .exit)) (now (request .exit)))
-        ≡ step (stateOf counts (now («processor_of» .entry)) (now («may_read» .entry)) (now («may_write» .entry)) (now (active .entry)) (now (unlocked .entry)) (now (readers .entry)) (now (writers .entry)) (now (certified .entry)) (now (request .entry))) kind rank object ⌝ }
+    requires { ⌜ wellFormed (stateOf counts (now «processor_of») (now «may_read») (now «may_write») (now active) (now unlocked) (now sleeping) (now readers) (now writers) (now certified) (now request)) ≡ true ⌝ }
+    ensures { λ r. ⌜ outcome r (stateOf counts (now («processor_of» .entry)) (now («may_read» .entry)) (now («may_write» .entry)) (now (active .exit)) (now (unlocked .exit)) (now (sleeping .exit)) (now (readers .exit)) (now (writers .exit)) (now (certified .exit)) (now (request .exit)))
+        ≡ step (stateOf counts (now («processor_of» .entry)) (now («may_read» .entry)) (now («may_write» .entry)) (now (active .entry)) (now (unlocked .entry)) (now (sleeping .entry)) (now (readers .entry)) (now (writers .entry)) (now (certified .entry)) (now (request .entry))) kind rank object ⌝ }
 {
     perform(
         counts,
@@ -56,6 +57,7 @@ pub fn act_tested<'a>(
         may_write,
         active,
         unlocked,
+        sleeping,
         readers,
         writers,
         certified,
@@ -75,6 +77,7 @@ pub fn act_known<'a>(
     may_write: Sets<'a>,
     active: &mut RankSet,
     unlocked: &mut RankSet,
+    sleeping: &mut RankSet,
     readers: SetsMut,
     writers: SetsMut,
     certified: &mut ObjectMarks,
@@ -83,9 +86,9 @@ pub fn act_known<'a>(
     rank: u8,
     object: u8,
 ) -> Answer
-    requires { ⌜ well ≡ wellFormed (stateOf counts (now «processor_of») (now «may_read») (now «may_write») (now active) (now unlocked) (now readers) (now writers) (now certified) (now request)) ⌝ }
-    ensures { λ r. ⌜ outcome r (stateOf counts (now («processor_of» .entry)) (now («may_read» .entry)) (now («may_write» .entry)) (now (active .exit)) (now (unlocked .exit)) (now (readers .exit)) (now (writers .exit)) (now (certified .exit)) (now (request .exit)))
-        ≡ step (stateOf counts (now («processor_of» .entry)) (now («may_read» .entry)) (now («may_write» .entry)) (now (active .entry)) (now (unlocked .entry)) (now (readers .entry)) (now (writers .entry)) (now (certified .entry)) (now (request .entry))) kind rank object ⌝ }
+    requires { ⌜ well ≡ wellFormed (stateOf counts (now «processor_of») (now «may_read») (now «may_write») (now active) (now unlocked) (now sleeping) (now readers) (now writers) (now certified) (now request)) ⌝ }
+    ensures { λ r. ⌜ outcome r (stateOf counts (now («processor_of» .entry)) (now («may_read» .entry)) (now («may_write» .entry)) (now (active .exit)) (now (unlocked .exit)) (now (sleeping .exit)) (now (readers .exit)) (now (writers .exit)) (now (certified .exit)) (now (request .exit)))
+        ≡ step (stateOf counts (now («processor_of» .entry)) (now («may_read» .entry)) (now («may_write» .entry)) (now (active .entry)) (now (unlocked .entry)) (now (sleeping .entry)) (now (readers .entry)) (now (writers .entry)) (now (certified .entry)) (now (request .entry))) kind rank object ⌝ }
 {
     if !well {
         return Answer::Refused(8);
@@ -97,6 +100,7 @@ pub fn act_known<'a>(
         may_write,
         active,
         unlocked,
+        sleeping,
         readers,
         writers,
         certified,
@@ -116,6 +120,7 @@ pub fn act_packed<'a>(
     may_write: Sets<'a>,
     active: &mut RankSet,
     unlocked: &mut RankSet,
+    sleeping: &mut RankSet,
     readers: SetsMut,
     writers: SetsMut,
     certified: &mut ObjectMarks,
@@ -124,11 +129,11 @@ pub fn act_packed<'a>(
     rank: u8,
     object: u8,
 ) -> u32
-    requires { ⌜ well ≡ wellFormed (stateOf counts (now «processor_of») (now «may_read») (now «may_write») (now active) (now unlocked) (now readers) (now writers) (now certified) (now request)) ⌝ }
-    ensures answer { λ r. ⌜ r ≡ packed (step (stateOf counts (now («processor_of» .entry)) (now («may_read» .entry)) (now («may_write» .entry)) (now (active .entry)) (now (unlocked .entry)) (now (readers .entry)) (now (writers .entry)) (now (certified .entry)) (now (request .entry))) kind rank object .answer) ⌝ }
-    ensures apart { λ r. ⌜ unpacked r ≡ paper (step (stateOf counts (now («processor_of» .entry)) (now («may_read» .entry)) (now («may_write» .entry)) (now (active .entry)) (now (unlocked .entry)) (now (readers .entry)) (now (writers .entry)) (now (certified .entry)) (now (request .entry))) kind rank object .answer) ⌝ }
-    ensures next { λ _. ⌜ stateOf counts (now («processor_of» .entry)) (now («may_read» .entry)) (now («may_write» .entry)) (now (active .exit)) (now (unlocked .exit)) (now (readers .exit)) (now (writers .exit)) (now (certified .exit)) (now (request .exit))
-        ≡ step (stateOf counts (now («processor_of» .entry)) (now («may_read» .entry)) (now («may_write» .entry)) (now (active .entry)) (now (unlocked .entry)) (now (readers .entry)) (now (writers .entry)) (now (certified .entry)) (now (request .entry))) kind rank object .state ⌝ }
+    requires { ⌜ well ≡ wellFormed (stateOf counts (now «processor_of») (now «may_read») (now «may_write») (now active) (now unlocked) (now sleeping) (now readers) (now writers) (now certified) (now request)) ⌝ }
+    ensures answer { λ r. ⌜ r ≡ packed (step (stateOf counts (now («processor_of» .entry)) (now («may_read» .entry)) (now («may_write» .entry)) (now (active .entry)) (now (unlocked .entry)) (now (sleeping .entry)) (now (readers .entry)) (now (writers .entry)) (now (certified .entry)) (now (request .entry))) kind rank object .answer) ⌝ }
+    ensures apart { λ r. ⌜ unpacked r ≡ paper (step (stateOf counts (now («processor_of» .entry)) (now («may_read» .entry)) (now («may_write» .entry)) (now (active .entry)) (now (unlocked .entry)) (now (sleeping .entry)) (now (readers .entry)) (now (writers .entry)) (now (certified .entry)) (now (request .entry))) kind rank object .answer) ⌝ }
+    ensures next { λ _. ⌜ stateOf counts (now («processor_of» .entry)) (now («may_read» .entry)) (now («may_write» .entry)) (now (active .exit)) (now (unlocked .exit)) (now (sleeping .exit)) (now (readers .exit)) (now (writers .exit)) (now (certified .exit)) (now (request .exit))
+        ≡ step (stateOf counts (now («processor_of» .entry)) (now («may_read» .entry)) (now («may_write» .entry)) (now (active .entry)) (now (unlocked .entry)) (now (sleeping .entry)) (now (readers .entry)) (now (writers .entry)) (now (certified .entry)) (now (request .entry))) kind rank object .state ⌝ }
 {
     let answer = act_known(
         well,
@@ -138,6 +143,7 @@ pub fn act_packed<'a>(
         may_write,
         active,
         unlocked,
+        sleeping,
         readers,
         writers,
         certified,
@@ -157,6 +163,7 @@ pub fn act<'a>(
     may_write: Sets<'a>,
     active: &mut RankSet,
     unlocked: &mut RankSet,
+    sleeping: &mut RankSet,
     readers: SetsMut,
     writers: SetsMut,
     certified: &mut ObjectMarks,
@@ -165,8 +172,8 @@ pub fn act<'a>(
     rank: u8,
     object: u8,
 ) -> Answer
-    ensures { λ r. ⌜ outcome r (stateOf counts (now («processor_of» .entry)) (now («may_read» .entry)) (now («may_write» .entry)) (now (active .exit)) (now (unlocked .exit)) (now (readers .exit)) (now (writers .exit)) (now (certified .exit)) (now (request .exit)))
-        ≡ step (stateOf counts (now («processor_of» .entry)) (now («may_read» .entry)) (now («may_write» .entry)) (now (active .entry)) (now (unlocked .entry)) (now (readers .entry)) (now (writers .entry)) (now (certified .entry)) (now (request .entry))) kind rank object ⌝ }
+    ensures { λ r. ⌜ outcome r (stateOf counts (now («processor_of» .entry)) (now («may_read» .entry)) (now («may_write» .entry)) (now (active .exit)) (now (unlocked .exit)) (now (sleeping .exit)) (now (readers .exit)) (now (writers .exit)) (now (certified .exit)) (now (request .exit)))
+        ≡ step (stateOf counts (now («processor_of» .entry)) (now («may_read» .entry)) (now («may_write» .entry)) (now (active .entry)) (now (unlocked .entry)) (now (sleeping .entry)) (now (readers .entry)) (now (writers .entry)) (now (certified .entry)) (now (request .entry))) kind rank object ⌝ }
 {
     let well = fits(
         counts,
@@ -175,6 +182,7 @@ pub fn act<'a>(
         may_write,
         *active,
         *unlocked,
+        *sleeping,
         readers,
         writers,
         certified,
@@ -188,6 +196,7 @@ pub fn act<'a>(
         may_write,
         active,
         unlocked,
+        sleeping,
         readers,
         writers,
         certified,
@@ -208,6 +217,7 @@ fn answer_each<'a>(
     may_write: Sets<'a>,
     active: &mut RankSet,
     unlocked: &mut RankSet,
+    sleeping: &mut RankSet,
     readers: SetsMut,
     writers: SetsMut,
     certified: &mut ObjectMarks,
@@ -215,10 +225,10 @@ fn answer_each<'a>(
     events: &[u8],
     answers: &mut [u32],
 )
-    requires { ⌜ Tested well (stateOf counts (now «processor_of») (now «may_read») (now «may_write») (now active) (now unlocked) (now readers) (now writers) (now certified) (now request)) × (length (now events) ≤ 3 * length (now answers)) ⌝ }
-    ensures answers { λ _. ⌜ now (answers .exit) ≡ sets (now (answers .entry)) 0 (answersTo (stateOf counts (now («processor_of» .entry)) (now («may_read» .entry)) (now («may_write» .entry)) (now (active .entry)) (now (unlocked .entry)) (now (readers .entry)) (now (writers .entry)) (now (certified .entry)) (now (request .entry))) (now (events .entry))) ⌝ }
-    ensures state { λ _. ⌜ stateOf counts (now («processor_of» .entry)) (now («may_read» .entry)) (now («may_write» .entry)) (now (active .exit)) (now (unlocked .exit)) (now (readers .exit)) (now (writers .exit)) (now (certified .exit)) (now (request .exit))
-        ≡ stateAfter (stateOf counts (now («processor_of» .entry)) (now («may_read» .entry)) (now («may_write» .entry)) (now (active .entry)) (now (unlocked .entry)) (now (readers .entry)) (now (writers .entry)) (now (certified .entry)) (now (request .entry))) (now (events .entry)) ⌝ }
+    requires { ⌜ Tested well (stateOf counts (now «processor_of») (now «may_read») (now «may_write») (now active) (now unlocked) (now sleeping) (now readers) (now writers) (now certified) (now request)) × (length (now events) ≤ 3 * length (now answers)) ⌝ }
+    ensures answers { λ _. ⌜ now (answers .exit) ≡ sets (now (answers .entry)) 0 (answersTo (stateOf counts (now («processor_of» .entry)) (now («may_read» .entry)) (now («may_write» .entry)) (now (active .entry)) (now (unlocked .entry)) (now (sleeping .entry)) (now (readers .entry)) (now (writers .entry)) (now (certified .entry)) (now (request .entry))) (now (events .entry))) ⌝ }
+    ensures state { λ _. ⌜ stateOf counts (now («processor_of» .entry)) (now («may_read» .entry)) (now («may_write» .entry)) (now (active .exit)) (now (unlocked .exit)) (now (sleeping .exit)) (now (readers .exit)) (now (writers .exit)) (now (certified .exit)) (now (request .exit))
+        ≡ stateAfter (stateOf counts (now («processor_of» .entry)) (now («may_read» .entry)) (now («may_write» .entry)) (now (active .entry)) (now (unlocked .entry)) (now (sleeping .entry)) (now (readers .entry)) (now (writers .entry)) (now (certified .entry)) (now (request .entry))) (now (events .entry)) ⌝ }
 {
     let mut at = 0;
     let mut i = 0;
@@ -231,6 +241,7 @@ fn answer_each<'a>(
             may_write,
             active,
             unlocked,
+            sleeping,
             readers,
             writers,
             certified,
@@ -253,6 +264,7 @@ pub fn act_each<'a>(
     may_write: Sets<'a>,
     active: &mut RankSet,
     unlocked: &mut RankSet,
+    sleeping: &mut RankSet,
     readers: SetsMut,
     writers: SetsMut,
     certified: &mut ObjectMarks,
@@ -261,10 +273,10 @@ pub fn act_each<'a>(
     answers: &mut [u32],
 ) -> usize
     ensures number { λ r. ⌜ r ≡ eventCount (now (events .entry)) (now (answers .entry)) ⌝ }
-    ensures answers { λ r. ⌜ now (answers .exit) ≡ answersTo (stateOf counts (now («processor_of» .entry)) (now («may_read» .entry)) (now («may_write» .entry)) (now (active .entry)) (now (unlocked .entry)) (now (readers .entry)) (now (writers .entry)) (now (certified .entry)) (now (request .entry))) (wholeEvents (now (events .entry)) (now (answers .entry)))
+    ensures answers { λ r. ⌜ now (answers .exit) ≡ answersTo (stateOf counts (now («processor_of» .entry)) (now («may_read» .entry)) (now («may_write» .entry)) (now (active .entry)) (now (unlocked .entry)) (now (sleeping .entry)) (now (readers .entry)) (now (writers .entry)) (now (certified .entry)) (now (request .entry))) (wholeEvents (now (events .entry)) (now (answers .entry)))
         ++ drop (eventCount (now (events .entry)) (now (answers .entry))) (now (answers .entry)) ⌝ }
-    ensures state { λ r. ⌜ stateOf counts (now («processor_of» .entry)) (now («may_read» .entry)) (now («may_write» .entry)) (now (active .exit)) (now (unlocked .exit)) (now (readers .exit)) (now (writers .exit)) (now (certified .exit)) (now (request .exit))
-        ≡ stateAfter (stateOf counts (now («processor_of» .entry)) (now («may_read» .entry)) (now («may_write» .entry)) (now (active .entry)) (now (unlocked .entry)) (now (readers .entry)) (now (writers .entry)) (now (certified .entry)) (now (request .entry))) (wholeEvents (now (events .entry)) (now (answers .entry))) ⌝ }
+    ensures state { λ r. ⌜ stateOf counts (now («processor_of» .entry)) (now («may_read» .entry)) (now («may_write» .entry)) (now (active .exit)) (now (unlocked .exit)) (now (sleeping .exit)) (now (readers .exit)) (now (writers .exit)) (now (certified .exit)) (now (request .exit))
+        ≡ stateAfter (stateOf counts (now («processor_of» .entry)) (now («may_read» .entry)) (now («may_write» .entry)) (now (active .entry)) (now (unlocked .entry)) (now (sleeping .entry)) (now (readers .entry)) (now (writers .entry)) (now (certified .entry)) (now (request .entry))) (wholeEvents (now (events .entry)) (now (answers .entry))) ⌝ }
 {
     let count = smaller(events.len() / 3, answers.len());
     let used = 3 * count;
@@ -275,6 +287,7 @@ pub fn act_each<'a>(
         may_write,
         *active,
         *unlocked,
+        *sleeping,
         readers,
         writers,
         certified,
@@ -288,6 +301,7 @@ pub fn act_each<'a>(
         may_write,
         active,
         unlocked,
+        sleeping,
         readers,
         writers,
         certified,
@@ -304,6 +318,7 @@ pub fn event(state: State, kind: u8, rank: u8, object: u8) -> Outcome
 {
     let mut active = state.active;
     let mut unlocked = state.unlocked;
+    let mut sleeping = state.sleeping;
     let mut readers = state.readers;
     let mut writers = state.writers;
     let mut certified = state.certified;
@@ -315,6 +330,7 @@ pub fn event(state: State, kind: u8, rank: u8, object: u8) -> Outcome
         &state.may_write,
         &mut active,
         &mut unlocked,
+        &mut sleeping,
         &mut readers,
         &mut writers,
         &mut certified,
@@ -326,6 +342,7 @@ pub fn event(state: State, kind: u8, rank: u8, object: u8) -> Outcome
     let mut next = state;
     next.active = active;
     next.unlocked = unlocked;
+    next.sleeping = sleeping;
     next.readers = readers;
     next.writers = writers;
     next.certified = certified;

@@ -43,6 +43,7 @@ pub fn page(state: State, buf: &mut [u8]) -> PageAnswer
         &state.may_write,
         state.active,
         state.unlocked,
+        state.sleeping,
         &state.readers,
         &state.writers,
         &state.certified,
@@ -59,6 +60,7 @@ pub fn write_page<'a>(
     may_write: Sets<'a>,
     active: RankSet,
     unlocked: RankSet,
+    sleeping: RankSet,
     readers: Sets<'a>,
     writers: Sets<'a>,
     certified: &'a ObjectMarks,
@@ -66,9 +68,9 @@ pub fn write_page<'a>(
     buf: &mut [u8],
 ) -> PageAnswer
     ensures { λ r. ⌜ (pageReply r ≡ P.writePage (stateOf counts (now («processor_of» .entry)) (now («may_read» .entry)) (now («may_write» .entry))
-        active unlocked (now (readers .entry)) (now (writers .entry)) (now (certified .entry)) (now (request .entry))) (now (buf .entry)))
+        active unlocked sleeping (now (readers .entry)) (now (writers .entry)) (now (certified .entry)) (now (request .entry))) (now (buf .entry)))
         × (now (buf .exit) ≡ P.pageWritten (stateOf counts (now («processor_of» .entry)) (now («may_read» .entry)) (now («may_write» .entry))
-        active unlocked (now (readers .entry)) (now (writers .entry)) (now (certified .entry)) (now (request .entry))) (now (buf .entry))) ⌝ }
+        active unlocked sleeping (now (readers .entry)) (now (writers .entry)) (now (certified .entry)) (now (request .entry))) (now (buf .entry))) ⌝ }
 {
     let well = fits_sized(
         counts,
@@ -77,6 +79,7 @@ pub fn write_page<'a>(
         may_write,
         active,
         unlocked,
+        sleeping,
         readers,
         writers,
         certified,

@@ -25,6 +25,7 @@ pub fn ask_inherited_rank<'a>(
     may_write: Sets<'a>,
     active: RankSet,
     unlocked: RankSet,
+    sleeping: RankSet,
     readers: Sets<'a>,
     writers: Sets<'a>,
     certified: &'a ObjectMarks,
@@ -32,7 +33,7 @@ pub fn ask_inherited_rank<'a>(
     rank: u8,
 ) -> RankAnswer
     ensures { λ r. ⌜ r ≡ Q.askInheritedRank (stateOf counts (now («processor_of» .entry)) (now («may_read» .entry)) (now («may_write» .entry))
-        active unlocked (now (readers .entry)) (now (writers .entry)) (now (certified .entry)) (now (request .entry))) rank ⌝ }
+        active unlocked sleeping (now (readers .entry)) (now (writers .entry)) (now (certified .entry)) (now (request .entry))) rank ⌝ }
 {
     let well = fits(
         counts,
@@ -41,6 +42,7 @@ pub fn ask_inherited_rank<'a>(
         may_write,
         active,
         unlocked,
+        sleeping,
         readers,
         writers,
         certified,
@@ -70,6 +72,7 @@ pub fn ask_named_lock<'a>(
     may_write: Sets<'a>,
     active: RankSet,
     unlocked: RankSet,
+    sleeping: RankSet,
     readers: Sets<'a>,
     writers: Sets<'a>,
     certified: &'a ObjectMarks,
@@ -77,7 +80,7 @@ pub fn ask_named_lock<'a>(
     rank: u8,
 ) -> NamedAnswer
     ensures { λ r. ⌜ r ≡ Q.askNamedLock (stateOf counts (now («processor_of» .entry)) (now («may_read» .entry)) (now («may_write» .entry))
-        active unlocked (now (readers .entry)) (now (writers .entry)) (now (certified .entry)) (now (request .entry))) rank ⌝ }
+        active unlocked sleeping (now (readers .entry)) (now (writers .entry)) (now (certified .entry)) (now (request .entry))) rank ⌝ }
 {
     let well = fits(
         counts,
@@ -86,6 +89,7 @@ pub fn ask_named_lock<'a>(
         may_write,
         active,
         unlocked,
+        sleeping,
         readers,
         writers,
         certified,
@@ -118,6 +122,7 @@ pub fn ask_ceilings<'a>(
     may_write: Sets<'a>,
     active: RankSet,
     unlocked: RankSet,
+    sleeping: RankSet,
     readers: Sets<'a>,
     writers: Sets<'a>,
     certified: &'a ObjectMarks,
@@ -125,7 +130,7 @@ pub fn ask_ceilings<'a>(
     object: u8,
 ) -> CeilingsAnswer
     ensures { λ r. ⌜ r ≡ Q.askCeilings (stateOf counts (now («processor_of» .entry)) (now («may_read» .entry)) (now («may_write» .entry))
-        active unlocked (now (readers .entry)) (now (writers .entry)) (now (certified .entry)) (now (request .entry))) object ⌝ }
+        active unlocked sleeping (now (readers .entry)) (now (writers .entry)) (now (certified .entry)) (now (request .entry))) object ⌝ }
 {
     let well = fits(
         counts,
@@ -134,6 +139,7 @@ pub fn ask_ceilings<'a>(
         may_write,
         active,
         unlocked,
+        sleeping,
         readers,
         writers,
         certified,
@@ -159,6 +165,7 @@ pub fn ask_running<'a>(
     may_write: Sets<'a>,
     active: RankSet,
     unlocked: RankSet,
+    sleeping: RankSet,
     readers: Sets<'a>,
     writers: Sets<'a>,
     certified: &'a ObjectMarks,
@@ -166,7 +173,7 @@ pub fn ask_running<'a>(
     processor: u8,
 ) -> RankAnswer
     ensures { λ r. ⌜ r ≡ Q.askRunning (stateOf counts (now («processor_of» .entry)) (now («may_read» .entry)) (now («may_write» .entry))
-        active unlocked (now (readers .entry)) (now (writers .entry)) (now (certified .entry)) (now (request .entry))) processor ⌝ }
+        active unlocked sleeping (now (readers .entry)) (now (writers .entry)) (now (certified .entry)) (now (request .entry))) processor ⌝ }
 {
     let well = fits(
         counts,
@@ -175,6 +182,7 @@ pub fn ask_running<'a>(
         may_write,
         active,
         unlocked,
+        sleeping,
         readers,
         writers,
         certified,

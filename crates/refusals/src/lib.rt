@@ -57,8 +57,8 @@ fn is_waiting(request: &JobRequests, rank: u8) -> bool
 // 10 to 12, of a start.
 pub fn start_refusal(counts: Counts, active: RankSet, rank: u8, object: u8) -> u8
     requires { ⌜ counts .jobs ≤ mostJobs ⌝ }
-    ensures { λ r. ⌜ ((u : ℕ) (ps mr mw rs ws cs q : List ℕ) →
-        r ≡ R.eventRefusal (stateOf counts ps mr mw active u rs ws cs q) 1 rank object) ⌝ }
+    ensures { λ r. ⌜ ((u z : ℕ) (ps mr mw rs ws cs q : List ℕ) →
+        r ≡ R.eventRefusal (stateOf counts ps mr mw active u z rs ws cs q) 1 rank object) ⌝ }
 {
     if !within(1, counts.jobs, rank) {
         return 10;
@@ -75,6 +75,7 @@ fn right_refusal(
     mode: u8,
     rank: u8,
     unlocked: RankSet,
+    sleeping: RankSet,
     may_read: RankSet,
     may_write: RankSet,
     readers: RankSet,
@@ -98,6 +99,7 @@ pub fn lock_refusal<'a>(
     may_write: Sets<'a>,
     active: RankSet,
     unlocked: RankSet,
+    sleeping: RankSet,
     readers: Sets<'a>,
     writers: Sets<'a>,
     request: &'a JobRequests,
@@ -107,7 +109,7 @@ pub fn lock_refusal<'a>(
 ) -> u8
     requires { ⌜ (counts .jobs ≤ mostJobs) × (counts .objects ≤ mostObjects) × (2 ≤ kind) × (kind ≤ 3) ⌝ }
     ensures { λ r. ⌜ ((ps cs : List ℕ) →
-        r ≡ R.eventRefusal (stateOf counts ps (now («may_read» .entry)) (now («may_write» .entry)) active unlocked
+        r ≡ R.eventRefusal (stateOf counts ps (now («may_read» .entry)) (now («may_write» .entry)) active unlocked sleeping
         (now (readers .entry)) (now (writers .entry)) cs (now (request .entry))) kind rank object) ⌝ }
 {
     if !within(1, counts.jobs, rank) {
@@ -120,6 +122,7 @@ pub fn lock_refusal<'a>(
         kind - 1,
         rank,
         unlocked,
+        sleeping,
         set_of(may_read, object),
         set_of(may_write, object),
         set_of(readers, object),
@@ -143,8 +146,8 @@ pub fn unlock_refusal<'a>(
     object: u8,
 ) -> u8
     requires { ⌜ (counts .jobs ≤ mostJobs) × (counts .objects ≤ mostObjects) ⌝ }
-    ensures { λ r. ⌜ ((u : ℕ) (ps mr mw cs : List ℕ) →
-        r ≡ R.eventRefusal (stateOf counts ps mr mw active u (now (readers .entry)) (now (writers .entry)) cs (now (request .entry))) 4 rank object) ⌝ }
+    ensures { λ r. ⌜ ((u z : ℕ) (ps mr mw cs : List ℕ) →
+        r ≡ R.eventRefusal (stateOf counts ps mr mw active u z (now (readers .entry)) (now (writers .entry)) cs (now (request .entry))) 4 rank object) ⌝ }
 {
     if !within(1, counts.jobs, rank) {
         return 10;
@@ -168,6 +171,7 @@ pub fn certify_refusal<'a>(
     may_write: Sets<'a>,
     active: RankSet,
     unlocked: RankSet,
+    sleeping: RankSet,
     writers: Sets<'a>,
     certified: &'a ObjectMarks,
     request: &'a JobRequests,
@@ -176,7 +180,7 @@ pub fn certify_refusal<'a>(
 ) -> u8
     requires { ⌜ (counts .jobs ≤ mostJobs) × (counts .objects ≤ mostObjects) ⌝ }
     ensures { λ r. ⌜ ((ps mr rs : List ℕ) →
-        r ≡ R.eventRefusal (stateOf counts ps mr (now («may_write» .entry)) active unlocked rs (now (writers .entry)) (now (certified .entry)) (now (request .entry))) 7 rank object) ⌝ }
+        r ≡ R.eventRefusal (stateOf counts ps mr (now («may_write» .entry)) active unlocked sleeping rs (now (writers .entry)) (now (certified .entry)) (now (request .entry))) 7 rank object) ⌝ }
 {
     if counts.version == 1 {
         return 9;
@@ -251,8 +255,8 @@ fn certify_first<'a>(
     rank: u8,
 ) -> u8
     requires { ⌜ (counts .objects ≤ mostObjects) × (1 ≤ rank) × (rank ≤ mostJobs) ⌝ }
-    ensures { λ r. ⌜ ((a u : ℕ) (ps mr mw rs q : List ℕ) →
-        r ≡ (25 if eqb kind 5 && not (R.allCertified (stateOf counts ps mr mw a u rs (now (writers .entry)) (now (certified .entry)) q) rank) else 0)) ⌝ }
+    ensures { λ r. ⌜ ((a u z : ℕ) (ps mr mw rs q : List ℕ) →
+        r ≡ (25 if eqb kind 5 && not (R.allCertified (stateOf counts ps mr mw a u z rs (now (writers .entry)) (now (certified .entry)) q) rank) else 0)) ⌝ }
 {
     if (counts.version == 1) | (kind != 5) {
         return 0;
@@ -276,8 +280,8 @@ pub fn finish_refusal<'a>(
     object: u8,
 ) -> u8
     requires { ⌜ (counts .jobs ≤ mostJobs) × (counts .objects ≤ mostObjects) × (5 ≤ kind) × (kind ≤ 6) ⌝ }
-    ensures { λ r. ⌜ ((u : ℕ) (ps mr mw rs : List ℕ) →
-        r ≡ R.eventRefusal (stateOf counts ps mr mw active u rs (now (writers .entry)) (now (certified .entry)) (now (request .entry))) kind rank object) ⌝ }
+    ensures { λ r. ⌜ ((u z : ℕ) (ps mr mw rs : List ℕ) →
+        r ≡ R.eventRefusal (stateOf counts ps mr mw active u z rs (now (writers .entry)) (now (certified .entry)) (now (request .entry))) kind rank object) ⌝ }
 {
     if !within(1, counts.jobs, rank) {
         return 10;

@@ -14,14 +14,15 @@ use Rattle.basics.specs.Choice.{clash, same-test, and-true, and-left, and-right
 use Rattle.basics.specs.Loops.{every, every-at, every-true, every-split}
 use Rattle.basics.specs.Arrays.{at}
 use Rattle.ranks.specs.Ranks.{wordBits, isEmpty, union, common, minus, subset, disjoint, atMostOne, upTo, lessOne, unions}
-use Rattle.ranks.specs.UnionLaws.{empty-union, empty-minus, unions-both, unions-split, unions-empty, unions-subset, subset-up-to, subset-le, empty-at-most-one}
+use Rattle.ranks.specs.UnionLaws.{empty-union, empty-minus, unions-both, unions-split, unions-empty, unions-subset, subset-union, subset-up-to, subset-le, empty-at-most-one}
 use Rattle.ranks.specs.LessOneLaws.{less-one-alone, less-one-at-most-one}
 use Rattle.state.specs.declared.State.{State}
 use Rattle.state.specs.declared.locks.Survey.{Survey}
-use Rattle.state.specs.State.{mostObjects, read, write, isObject, declared, declaredAny, holders, holdersAny, isCertified}
+use Rattle.state.specs.State.{mostJobs, mostObjects, read, write, isObject, declared, declaredAny, holders, holdersAny, isCertified}
 use Rattle.state.specs.WellFormed.{countsFit, processorsFit, declarationFits, declarationsFit, ofJobs, declaredOfJobs, aboveIdle, heldByActive, heldByRight, locksFit}
-use Rattle.state.specs.WellFormed.{lockedOnce, alone, writtenAlone, oneLockEach, writersAlone, waitsFit, marksFit, versionFits, certifyFits, certifiesFit, wellFormed}
+use Rattle.state.specs.WellFormed.{lockedOnce, alone, writtenAlone, oneLockEach, writersAlone, waitsFit, marksFit, versionFits, certifyFits, certifiesFit, waitsAwake, sleepersFit, wellFormed}
 use Rattle.state.specs.Clauses.{Clauses, clauses, well-formed, counts-within}
+use Rattle.state.proofs.WaitLaws.{marksJoined, waits-joined}
 use Rattle.state.specs.Survey.{apart, inOrder, blockSize, inBlocks, objectInOrder, heldOn, allOf, Surveyed, certifiable, certifiedWell}
 
 -- ---- one object
@@ -315,19 +316,22 @@ module _ (s : State) (counts : countsFit s ≡ true) (version : versionFits s �
 
   abbrev test : Bool
   test =
-      gathered && subset (s .active) (upTo (s .counts .jobs)) && subset (s .unlocked) (s .active) && every mostObjects well && processorsFit s && waitsFit s
+      gathered && subset (s .active) (upTo (s .counts .jobs)) && subset (union (s .unlocked) (s .sleeping)) (s .active) && every mostObjects well && processorsFit s
+      && waitsFit (marksJoined s)
 
   test-clauses : test ≡ true → Clauses s
-  unfolding declarationsFit aboveIdle locksFit oneLockEach writersAlone marksFit certifiesFit
+  unfolding declarationsFit aboveIdle locksFit oneLockEach writersAlone marksFit certifiesFit sleepersFit
   test-clauses t =
       let t4 = gathered && subset (s .active) (upTo (s .counts .jobs)) in
-      let t5 = t4 && subset (s .unlocked) (s .active) in
+      let t5 = t4 && subset (union (s .unlocked) (s .sleeping)) (s .active) in
       let t6 = t5 && every mostObjects well in
       let t7 = t6 && processorsFit s in
-      let p7 = and-left t7 (waitsFit s) t in
+      let p7 = and-left t7 (waitsFit (marksJoined s)) t in
+      let waits = sym (waits-joined s) ∙ and-right t7 (waitsFit (marksJoined s)) t in
       let p6 = and-left t6 (processorsFit s) p7 in
       let p5 = and-left t5 (every mostObjects well) p6 in
-      let p4 = and-left t4 (subset (s .unlocked) (s .active)) p5 in
+      let p4 = and-left t4 (subset (union (s .unlocked) (s .sleeping)) (s .active)) p5 in
+      let marks = sym (subset-union (s .unlocked) (s .sleeping) (s .active)) ∙ and-right t4 (subset (union (s .unlocked) (s .sleeping)) (s .active)) p5 in
       let fits = each-fits (and-left gathered (subset (s .active) (upTo (s .counts .jobs))) p4) (and-right t5 (every mostObjects well) p6) in
       record {
         counts = counts;
@@ -342,14 +346,18 @@ module _ (s : State) (counts : countsFit s ≡ true) (version : versionFits s �
             (every-true mostObjects (heldByActive s) (λ o a b. fits o a b .active)) (every-true mostObjects (heldByRight s) (λ o a b. fits o a b .right));
         once = every-true mostObjects (lockedOnce s) (λ o a b. fits o a b .once);
         alone = every-true mostObjects (writtenAlone s) (λ o a b. fits o a b .alone);
-        waits = and-right t7 (waitsFit s) t;
-        marks = and-right t4 (subset (s .unlocked) (s .active)) p5;
+        waits = and-left (waitsFit s) (every mostJobs (waitsAwake s)) waits;
+        marks = and-left (subset (s .unlocked) (s .active)) (subset (s .sleeping) (s .active)) marks;
         version = version;
         certifies = every-true mostObjects (certifyFits s) (λ o a b. fits o a b .certify);
+        sleepers =
+            and-true (subset (s .sleeping) (s .active)) (every mostJobs (waitsAwake s))
+            (and-right (subset (s .unlocked) (s .active)) (subset (s .sleeping) (s .active)) marks)
+            (and-right (waitsFit s) (every mostJobs (waitsAwake s)) waits);
       }
 
   clauses-test : Clauses s → test ≡ true
-  unfolding declarationsFit aboveIdle locksFit oneLockEach writersAlone marksFit certifiesFit
+  unfolding declarationsFit aboveIdle locksFit oneLockEach writersAlone marksFit certifiesFit sleepersFit
   clauses-test c =
       let fits : (o : ℕ) → 1 ≤ o → o ≤ mostObjects → ObjectFits s o = λ o a b. record {
         declaration = every-at mostObjects (declarationFits s) o (c .declarations) a b;
@@ -362,7 +370,11 @@ module _ (s : State) (counts : countsFit s ≡ true) (version : versionFits s �
       } in
       let jobs : subset (s .active) (upTo (s .counts .jobs)) ≡ true =
       subset-up-to (s .counts .jobs) (s .active) ∙ and-left (ofJobs s (s .active)) (every mostObjects (declaredOfJobs s)) (c .above) in
-      simp (fits-gathered fits, jobs, c .marks, fits-certified fits, c .processors, c .waits)
+      let idle = and-left (subset (s .sleeping) (s .active)) (every mostJobs (waitsAwake s)) (c .sleepers) in
+      let awake = and-right (subset (s .sleeping) (s .active)) (every mostJobs (waitsAwake s)) (c .sleepers) in
+      let marks = subset-union (s .unlocked) (s .sleeping) (s .active) ∙ and-true _ _ (c .marks) idle in
+      let waits = waits-joined s ∙ and-true _ _ (c .waits) awake in
+      simp (fits-gathered fits, jobs, marks, fits-certified fits, c .processors, waits)
 
   pub tests-well : test ≡ wellFormed s
   tests-well = same-test test (wellFormed s) (λ t. well-formed s (test-clauses t)) (λ w. clauses-test (clauses s w))

@@ -1,4 +1,5 @@
 -- What the test of a waiting job comes to: what it may ask for, then the whole, once the mode and the object of its request are known to be in range.
+-- Then that the test, made with the sleepers among those that have unlocked, says that waiting jobs are awake too.
 -- Assumes nothing.
 use mathlib.Core.Path.{_≡_, refl, sym, ap, ap₂, _∙_}
 use mathlib.Core.Logic.{_≢_}
@@ -9,10 +10,13 @@ use lib.ListN.{getD}
 use borrow.Author.Tests.{eq-eqb, ne-eqb}
 use Rattle.basics.specs.Choice.{if_then_else_, between}
 use Rattle.basics.specs.Arrays.{at, at-index}
+use Rattle.basics.specs.Loops.{every, every-same, every-and}
 use Rattle.state.specs.declared.State.{State}
-use Rattle.ranks.specs.Ranks.{member}
-use Rattle.state.specs.State.{certify, ofMode, strongest, isCertified, isObject, isActive, hasUnlocked, mayLock, holdsAlready, requestOf, modeOfRequest, objectOfRequest, requestedMode, requestedObject}
-use Rattle.state.specs.WellFormed.{holdsBefore, mayAwait, waitFits}
+use Rattle.ranks.specs.Ranks.{member, union}
+use Rattle.ranks.specs.UnionLaws.{member-union}
+use Rattle.state.specs.State.{mostJobs, certify, ofMode, strongest, isCertified, isObject, isActive, hasUnlocked, isSleeping, isWaiting, mayLock, holdsAlready}
+use Rattle.state.specs.State.{requestOf, modeOfRequest, objectOfRequest, requestedMode, requestedObject, withLocks}
+use Rattle.state.specs.WellFormed.{holdsBefore, mayAwait, waitFits, waitsFit, waitsAwake}
 use Rattle.state.specs.Survey.{mayAsk}
 
 -- ---- what a rank may ask for, by its right, its own lock in that mode, its write lock and the object's mark
@@ -84,3 +88,43 @@ wait-found s from k b d e =
 
 pub wait-not : (s : State) (from k : ℕ) → requestOf s (suc (from + k)) ≡ 0 → waitFits s (from + (k + 1)) ≡ true
 wait-not s from k e = let next : suc (from + k) ≡ from + (k + 1) = omega arith in ap (waitFits s) (sym next) ∙ wait-none s (suc (from + k)) e
+
+-- ---- those that have unlocked and those that sleep, together: a waiting job is none of them
+
+abbrev pub marksJoined : State → State
+marksJoined s = withLocks s (s .active) (union (s .unlocked) (s .sleeping)) 0 (s .readers) (s .writers) (s .certified) (s .request)
+
+pub waits-joined : (s : State) → waitsFit (marksJoined s) ≡ waitsFit s && every mostJobs (waitsAwake s)
+unfolding waitsFit
+waits-joined s = every-same mostJobs (waitFits (marksJoined s)) (λ r. waitFits s r && waitsAwake s r) (λ r a b. each r) ∙ every-and mostJobs (waitFits s) (waitsAwake s)
+  where
+    and-no : (b : Bool) → b && false ≡ false
+    and-no true = refl
+    and-no false = refl
+
+    and-yes : (b : Bool) → b ≡ b && true
+    and-yes true = refl
+    and-yes false = refl
+
+    asks : (front unlocked sleeping a b c : Bool) → front && not (unlocked || sleeping) && a && b && c ≡ front && not unlocked && a && b && c && not sleeping
+    asks false unlocked sleeping a b c = refl
+    asks true true sleeping a b c = refl
+    asks true false true a b c = sym (and-no (a && b && c))
+    asks true false false a b c = and-yes (a && b && c)
+
+    each : (r : ℕ) → waitFits (marksJoined s) r ≡ waitFits s r && waitsAwake s r
+    each r = go (isWaiting s r)
+      where
+        m : ℕ
+        m = requestedMode s r
+
+        o : ℕ
+        o = requestedObject s r
+
+        go : (w : Bool) → not w || mayAwait (marksJoined s) m r o ≡ (not w || mayAwait s m r o) && not (w && isSleeping s r)
+        go false = refl
+        go true =
+            ap (λ (t : Bool). between 1 (strongest (s .counts .version)) m && isObject s o && isActive s r && not t && mayLock s m r o && not (holdsAlready s m r o) && holdsBefore s m r o)
+            (member-union (s .unlocked) (s .sleeping) r)
+            ∙ asks (between 1 (strongest (s .counts .version)) m && isObject s o && isActive s r) (hasUnlocked s r) (isSleeping s r)
+            (mayLock s m r o) (not (holdsAlready s m r o)) (holdsBefore s m r o)

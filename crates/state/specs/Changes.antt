@@ -14,8 +14,8 @@ use Rattle.basics.specs.Arrays.{at, put, at-put-same, at-put-other, at-mapped}
 use Rattle.ranks.specs.Ranks.{member, with, without}
 use Rattle.ranks.specs.RankLaws.{member-with-other, member-without-same, member-without-other, with-lt, without-lt}
 use Rattle.state.specs.declared.State.{State}
-use Rattle.state.specs.State.{mostJobs, mostObjects, read, write, certify, marked, mark, holders, holds, isCertified, isActive, hasUnlocked, requestOf, requestFor}
-use Rattle.state.specs.State.{withLocks}
+use Rattle.state.specs.State.{mostJobs, mostObjects, read, write, certify, marked, mark, holders, holds, isCertified, isActive, hasUnlocked, isSleeping, requestOf, requestFor}
+use Rattle.state.specs.State.{withLocks, withSleepers}
 use Rattle.state.specs.State.{activate, await, grant, release, endRun}
 use Rattle.state.specs.Facts.{Sized, In, RequestFacts, Facts}
 use Rattle.state.specs.Marks.{mark-same, mark-other, drop-kept, drop-gone}
@@ -24,12 +24,13 @@ use Rattle.state.specs.WellFormedFacts.{active-rank}
 
 -- the locks of t over the table of s: every change of s is of this form
 abbrev pub overTable : State → State → State
-overTable s t = withLocks s (t .active) (t .unlocked) (t .readers) (t .writers) (t .certified) (t .request)
+overTable s t = withLocks s (t .active) (t .unlocked) (t .sleeping) (t .readers) (t .writers) (t .certified) (t .request)
 
 -- t says of job x what s says
 pub record Same (s t : State) (x : ℕ) : Type 0 where
   pub active : isActive t x ≡ isActive s x
   pub unlocked : hasUnlocked t x ≡ hasUnlocked s x
+  pub sleeping : isSleeping t x ≡ isSleeping s x
   pub request : requestOf t x ≡ requestOf s x
   pub locks : (m o : ℕ) → holds t m x o ≡ holds s m x o
   pub certified : (o : ℕ) → holds s write x o ≡ true → isCertified t o ≡ isCertified s o
@@ -92,22 +93,27 @@ module _ (m r v : ℕ) where
       go true = l
       go false = with-lt k v r l h
 
--- ---- start and wait
+-- ---- start, wait and sleep
 
 module _ (s : State) (r : ℕ) where
   pub activate-same : (x : ℕ) → r ≢ x → Same s (activate s r) x
   unfolding activate
-  activate-same x d = record { active = member-with-other (s .active) r x d; unlocked = refl; request = refl; locks = λ m o. refl; certified = λ o h. refl }
+  activate-same x d = record { active = member-with-other (s .active) r x d; unlocked = refl; sleeping = refl; request = refl; locks = λ m o. refl; certified = λ o h. refl }
 
   pub await-same : (m o x : ℕ) → r ≢ x → Same s (await s m r o) x
   unfolding await
   await-same m o x d = record {
     active = refl;
     unlocked = refl;
+    sleeping = refl;
     request = at-put-other (s .request) r (requestFor m o) x d;
     locks = λ n p. refl;
     certified = λ p h. refl;
   }
+
+-- other sleepers say the same of whoever is asleep in both or in neither
+pub sleepers-same : (s : State) (z x : ℕ) → member z x ≡ isSleeping s x → Same s (withSleepers s z) x
+sleepers-same s z x e = record { active = refl; unlocked = refl; sleeping = e; request = refl; locks = λ m o. refl; certified = λ o h. refl }
 
 -- ---- the release of one read lock
 
@@ -144,6 +150,7 @@ module _ (s : State) (r : ℕ) (Z : Sized s) (o : ℕ) (low : 1 ≤ o) (high : o
   release-same x d = record {
     active = refl;
     unlocked = member-with-other (s .unlocked) r x d;
+    sleeping = refl;
     request = refl;
     locks = λ m p. elim (ℕ-discrete o p) [
       | yes e ↦ subst (λ q. holds (release s r o) m x q ≡ holds s m x q) e
@@ -187,6 +194,7 @@ module _ (s : State) (F : Facts s) (r : ℕ) where
   end-same x d = record {
     active = member-without-other (s .active) r x d;
     unlocked = member-without-other (s .unlocked) r x d;
+    sleeping = member-without-other (s .sleeping) r x d;
     request = at-put-other (s .request) r 0 x d;
     locks = λ m o. ap (λ v. member v x) (end-holders m o) ∙ member-without-other (holders s m o) r x d;
     certified = λ o h. end-mark-kept o (other o h (holds s write r o) refl);
@@ -277,6 +285,7 @@ module _ (s : State) (F : Facts s) (r m o : ℕ) (A : RequestFacts s m r o) wher
   grant-same x d = record {
     active = refl;
     unlocked = refl;
+    sleeping = refl;
     request = at-put-other (s .request) r 0 x d;
     locks = λ n p. elim (ℕ-discrete o p) [
       | yes e ↦ subst (λ q. holds (grant s m r o) n x q ≡ holds s n x q) e (there n)

@@ -1,4 +1,4 @@
--- The eleven clauses of a well-formed state, taken apart and put together.
+-- The twelve clauses of a well-formed state, taken apart and put together.
 -- Assumes nothing.
 use mathlib.Core.Path.{_≡_}
 use mathlib.Core.Bool.{true, _&&_}
@@ -7,7 +7,7 @@ use Rattle.basics.specs.Choice.{between, and-left, and-right, between-true, ins
 use Rattle.state.specs.declared.Counts.{Counts}
 use Rattle.state.specs.declared.State.{State}
 use Rattle.state.specs.State.{mostJobs, mostObjects, mostProcessors}
-use Rattle.state.specs.WellFormed.{countsWithin, countsFit, processorsFit, declarationsFit, aboveIdle, locksFit, oneLockEach, writersAlone, waitsFit, marksFit, versionFits, certifiesFit, wellFormed}
+use Rattle.state.specs.WellFormed.{countsWithin, countsFit, processorsFit, declarationsFit, aboveIdle, locksFit, oneLockEach, writersAlone, waitsFit, marksFit, versionFits, certifiesFit, sleepersFit, wellFormed}
 
 pub record Clauses (s : State) : Type 0 where
   pub counts : countsFit s ≡ true
@@ -21,6 +21,7 @@ pub record Clauses (s : State) : Type 0 where
   pub marks : marksFit s ≡ true
   pub version : versionFits s ≡ true
   pub certifies : certifiesFit s ≡ true
+  pub sleepers : sleepersFit s ≡ true
 
 pub clauses : (s : State) → wellFormed s ≡ true → Clauses s
 unfolding wellFormed
@@ -35,7 +36,9 @@ clauses s w =
     let c8 = c7 && waitsFit s in
     let c9 = c8 && marksFit s in
     let c10 = c9 && versionFits s in
-    let w10 = and-left c10 (certifiesFit s) w in
+    let c11 = c10 && certifiesFit s in
+    let w11 = and-left c11 (sleepersFit s) w in
+    let w10 = and-left c10 (certifiesFit s) w11 in
     let w9 = and-left c9 (versionFits s) w10 in
     let w8 = and-left c8 (marksFit s) w9 in
     let w7 = and-left c7 (waitsFit s) w8 in
@@ -55,12 +58,13 @@ clauses s w =
       waits = and-right c7 (waitsFit s) w8;
       marks = and-right c8 (marksFit s) w9;
       version = and-right c9 (versionFits s) w10;
-      certifies = and-right c10 (certifiesFit s) w;
+      certifies = and-right c10 (certifiesFit s) w11;
+      sleepers = and-right c11 (sleepersFit s) w;
     }
 
 pub well-formed : (s : State) → Clauses s → wellFormed s ≡ true
 unfolding wellFormed
-well-formed s c = simp (c .counts, c .processors, c .declarations, c .above, c .locks, c .once, c .alone, c .waits, c .marks, c .version, c .certifies)
+well-formed s c = simp (c .counts, c .processors, c .declarations, c .above, c .locks, c .once, c .alone, c .waits, c .marks, c .version, c .certifies, c .sleepers)
 
 -- ---- counts within their limits
 

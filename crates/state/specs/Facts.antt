@@ -9,7 +9,7 @@ use lib.ListN.{length}
 use Rattle.ranks.specs.Ranks.{member}
 use Rattle.state.specs.declared.State.{State}
 use Rattle.state.specs.State.{mostJobs, mostObjects, markWords, read, write, certify, strongest, isObject, processorOf, declared, holders, isCertified, sharesWithNone, holdsAlready}
-use Rattle.state.specs.State.{hasUnlocked, requestOf, requestedMode, requestedObject}
+use Rattle.state.specs.State.{hasUnlocked, isSleeping, requestOf, requestedMode, requestedObject}
 use Rattle.state.specs.Clauses.{Within}
 
 -- the lengths that the arrays of the code's record always have
@@ -40,12 +40,14 @@ pub record LockFacts (s : State) (o : ℕ) : Type 0 where
   -- a certify lock is a write lock of version 2
   pub certified : isCertified s o ≡ true → (s .counts .version ≡ 2) × ((r : ℕ) × In (holders s write o) r)
 
--- "a waiting job is active, hasn't unlocked, and asks for a declared lock that 17 wouldn't refuse": of rank r and the lock on o in mode m
+-- "a waiting job is active, hasn't unlocked, and asks for a declared lock that 17 wouldn't refuse", and isn't asleep: of rank r and the lock on o in mode m
 pub record RequestFacts (s : State) (m r o : ℕ) : Type 0 where
   pub mode : (read ≤ m) × (m ≤ strongest (s .counts .version))
   pub object : (1 ≤ o) × (o ≤ s .counts .objects)
   pub active : In (s .active) r
   pub not-unlocked : hasUnlocked s r ≡ false
+  -- "The mark is clear for .. waiting jobs"
+  pub awake : isSleeping s r ≡ false
   pub right : In (declared s m o) r
   pub new : holdsAlready s m r o ≡ false
   -- "a job waiting to certify holds the write lock"
@@ -65,4 +67,7 @@ pub record Facts (s : State) : Type 0 where
   -- "an idle job carries no mark of unlocking"
   pub marks : (r : ℕ) → In (s .unlocked) r → In (s .active) r
   pub marks-jobs : s .unlocked < 2 ^ s .counts .jobs
+  -- the sleeping mark "is clear for idle .. jobs"
+  pub sleepers : (r : ℕ) → In (s .sleeping) r → In (s .active) r
+  pub sleepers-jobs : s .sleeping < 2 ^ s .counts .jobs
   pub version : (1 ≤ s .counts .version) × (s .counts .version ≤ 2)

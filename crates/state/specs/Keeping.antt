@@ -1,5 +1,5 @@
--- Each change keeps the facts of a well-formed state: a start, a wait, a release, the end of a run; and a grant with which
--- no other job's lock conflicts.
+-- Each change keeps the facts of a well-formed state: a start, a wait, a job that falls asleep or is awakened, a release, the end of a run; and a grant with
+-- which no other job's lock conflicts.
 -- Assumes nothing.
 use mathlib.Core.Path.{_≡_, refl, sym, subst, ap, ap₂, _∙_}
 use mathlib.Core.Logic.{_≢_, _⊎_, inl, inr}
@@ -15,13 +15,13 @@ use Rattle.basics.specs.Arrays.{put, length-put, length-mapped}
 use Rattle.ranks.specs.Ranks.{member, with, without}
 use Rattle.ranks.specs.RankLaws.{member-with-same, member-with-other, member-without-same, member-without-other, with-lt, without-lt}
 use Rattle.state.specs.declared.State.{State}
-use Rattle.state.specs.State.{mostJobs, mostObjects, markWords, read, write, certify, mark, declared, holders, holds, isCertified, sharesWithNone, holdsAlready, isActive}
-use Rattle.state.specs.State.{requestOf, requestFor, modeOfRequest, objectOfRequest, requestedMode, requestedObject, activate, await, grant, release, endRun}
+use Rattle.state.specs.State.{mostJobs, mostObjects, markWords, read, write, certify, mark, declared, holders, holds, isCertified, sharesWithNone, holdsAlready, isActive, isSleeping}
+use Rattle.state.specs.State.{requestOf, requestFor, modeOfRequest, objectOfRequest, requestedMode, requestedObject, withSleepers, activate, await, grant, release, fallAsleep, awaken, endRun}
 use Rattle.state.specs.Facts.{Sized, In, Alone, LockFacts, RequestFacts, Facts}
 use Rattle.state.specs.Modes.{either-mode}
 use Rattle.state.specs.Marks.{length-mark, length-drop}
 use Rattle.state.specs.WellFormedFacts.{held-object}
-use Rattle.state.specs.Changes.{overTable, Same, object-fits, readersAfter, writersAfter, readers-after-lt, writers-after-lt, activate-same}
+use Rattle.state.specs.Changes.{overTable, Same, object-fits, readersAfter, writersAfter, readers-after-lt, writers-after-lt, activate-same, sleepers-same}
 use Rattle.state.specs.Changes.{await-same, await-request, grant-request, end-request, end-holders, end-mark-kept, end-mark-gone, end-same}
 use Rattle.state.specs.Changes.{release-either, release-others, release-same, grant-readers, grant-writers, grant-others, grant-mark-kept, grant-mark-other, grant-same}
 
@@ -82,6 +82,7 @@ module _ (s t : State) where
     object = A .object;
     active = S .active ∙ A .active;
     not-unlocked = S .unlocked ∙ A .not-unlocked;
+    awake = S .sleeping ∙ A .awake;
     right = A .right;
     new = same-already m x o S ∙ A .new;
     before = λ q. S .locks write o ∙ A .before q;
@@ -96,10 +97,10 @@ module _ (s t : State) where
     -- a change of job r alone
     keep : (r : ℕ) → length (t .readers) ≡ mostObjects → length (t .writers) ≡ mostObjects → length (t .certified) ≡ markWords
         → length (t .request) ≡ mostJobs → ((o : ℕ) → LockFacts (overTable s t) o) → t .active < 2 ^ s .counts .jobs → t .unlocked < 2 ^ s .counts .jobs
-        → ((x : ℕ) → In (t .unlocked) x → In (t .active) x)
+        → ((x : ℕ) → In (t .unlocked) x → In (t .active) x) → t .sleeping < 2 ^ s .counts .jobs → ((x : ℕ) → In (t .sleeping) x → In (t .active) x)
         → (requestOf t r ≢ 0 → RequestFacts (overTable s t) (requestedMode t r) r (requestedObject t r))
         → ((x : ℕ) → r ≢ x → Same s t x) → Facts (overTable s t)
-    keep r long-readers long-writers long-certified long-request locks active unlocked marks waits same = record {
+    keep r long-readers long-writers long-certified long-request locks active unlocked marks sleeping sleepers waits same = record {
       sized = record {
         processor-of = F .sized .processor-of;
         may-read = F .sized .may-read;
@@ -121,6 +122,8 @@ module _ (s t : State) where
       ];
       marks = marks;
       marks-jobs = unlocked;
+      sleepers = sleepers;
+      sleepers-jobs = sleeping;
       version = F .version;
     }
 
@@ -143,6 +146,7 @@ module _ (s : State) (F : Facts s) (r : ℕ) (low : 1 ≤ r) (high : r ≤ s .co
       keep s (activate s r) F r (F .sized .readers) (F .sized .writers) (F .sized .certified) (F .sized .request)
       (λ o. fewer-locks s (activate s r) o (F .locks o .jobs) (λ m x i. (i, grows x)) (kept-mark o) (F .locks o))
       (with-lt (s .counts .jobs) (s .active) r (F .active-jobs) high) (F .marks-jobs) (λ x i. grows x (F .marks x i))
+      (F .sleepers-jobs) (λ x i. grows x (F .sleepers x i))
       (λ d. absurd (clash (F .requests r d .active) idle)) (activate-same s r)
     where
       grows : (x : ℕ) → In (s .active) x → In (with (s .active) r) x
@@ -154,7 +158,7 @@ module _ (s : State) (F : Facts s) (r : ℕ) (low : 1 ≤ r) (high : r ≤ s .co
       keep s (await s m r o) F r (F .sized .readers) (F .sized .writers) (F .sized .certified)
       (length-put (s .request) r (requestFor m o) ∙ F .sized .request)
       (λ p. fewer-locks s (await s m r o) p (F .locks p .jobs) (λ n x i. (i, λ j. j)) (kept-mark p) (F .locks p))
-      (F .active-jobs) (F .marks-jobs) (F .marks) (λ d. waits) (await-same s r m o)
+      (F .active-jobs) (F .marks-jobs) (F .marks) (F .sleepers-jobs) (F .sleepers) (λ d. waits) (await-same s r m o)
     where
       -- the request holds the mode and the object
       waits : RequestFacts (await s m r o) (modeOfRequest (requestOf (await s m r o) r)) r (objectOfRequest (requestOf (await s m r o) r))
@@ -169,10 +173,32 @@ module _ (s : State) (F : Facts s) (r : ℕ) (low : 1 ≤ r) (high : r ≤ s .co
             object = A .object;
             active = A .active;
             not-unlocked = A .not-unlocked;
+            awake = A .awake;
             right = A .right;
             new = A .new;
             before = A .before;
           })))
+
+  -- other sleepers, of whom r alone is new or missing
+  sleepers-keep : (z : ℕ) → z < 2 ^ s .counts .jobs → ((x : ℕ) → In z x → In (s .active) x) → requestOf s r ≡ 0
+      → ((x : ℕ) → r ≢ x → member z x ≡ isSleeping s x) → Facts (withSleepers s z)
+  sleepers-keep z small active free same =
+      keep s (withSleepers s z) F r (F .sized .readers) (F .sized .writers) (F .sized .certified) (F .sized .request)
+      (λ o. fewer-locks s (withSleepers s z) o (F .locks o .jobs) (λ m x i. (i, λ j. j)) (kept-mark o) (F .locks o))
+      (F .active-jobs) (F .marks-jobs) (F .marks) small active (λ d. absurd (d free)) (λ x d. sleepers-same s z x (same x d))
+
+  pub fall-asleep-keeps : isActive s r ≡ true → requestOf s r ≡ 0 → Facts (fallAsleep s r)
+  unfolding fallAsleep
+  fall-asleep-keeps active free =
+      sleepers-keep (with (s .sleeping) r) (with-lt (s .counts .jobs) (s .sleeping) r (F .sleepers-jobs) high)
+      (λ x i. elim (with-in (s .sleeping) r x i) [ inl e ↦ subst (λ y. In (s .active) y) e active | inr j ↦ F .sleepers x j ])
+      free (member-with-other (s .sleeping) r)
+
+  pub awaken-keeps : requestOf s r ≡ 0 → Facts (awaken s r)
+  unfolding awaken
+  awaken-keeps free =
+      sleepers-keep (without (s .sleeping) r) (without-lt (s .counts .jobs) (s .sleeping) r (F .sleepers-jobs))
+      (λ x i. F .sleepers x (without-in (s .sleeping) r x i .0)) free (member-without-other (s .sleeping) r)
 
   -- a set of holders that is a part of what it was
   abbrev Part : ℕ → ℕ → Type 0
@@ -186,7 +212,7 @@ module _ (s : State) (F : Facts s) (r : ℕ) (low : 1 ≤ r) (high : r ≤ s .co
       (λ p. fewer-locks s (release s r o) p (λ m. part p m .0) (λ m x i. (part p m .1 x i, λ j. j)) (kept-mark p) (F .locks p))
       (F .active-jobs) (with-lt (s .counts .jobs) (s .unlocked) r (F .marks-jobs) high)
       (λ x i. elim (with-in (s .unlocked) r x i) [ inl e ↦ subst (λ y. In (s .active) y) e active | inr j ↦ F .marks x j ])
-      (λ d. absurd (d free)) (release-same s r Z o a b)
+      (F .sleepers-jobs) (F .sleepers) (λ d. absurd (d free)) (release-same s r Z o a b)
     where
       part : (p m : ℕ) → Part (holders (release s r o) m p) (holders s m p)
       part p m = elim (ℕ-discrete o p) [
@@ -209,6 +235,8 @@ module _ (s : State) (F : Facts s) (r : ℕ) (low : 1 ≤ r) (high : r ≤ s .co
       (λ e. marks o (holds s write r o) refl e) (F .locks o))
       (without-lt (s .counts .jobs) (s .active) r (F .active-jobs)) (without-lt (s .counts .jobs) (s .unlocked) r (F .marks-jobs))
       (λ x i. (let z = without-in (s .unlocked) r x i in stays x (z .1) (F .marks x (z .0))))
+      (without-lt (s .counts .jobs) (s .sleeping) r (F .sleepers-jobs))
+      (λ x i. (let z = without-in (s .sleeping) r x i in stays x (z .1) (F .sleepers x (z .0))))
       (λ d. absurd (d (end-request s F r low high))) (end-same s F r)
     where
       stays : (x : ℕ) → r ≢ x → In (s .active) x → In (without (s .active) r) x
@@ -395,6 +423,7 @@ module _ (s : State) (F : Facts s) (r : ℕ) (low : 1 ≤ r) (high : r ≤ s .co
     grant-keeps =
         keep s (grant s m r o) F r (length-put (s .readers) o (readersAfter m r (holders s read o)) ∙ F .sized .readers)
         (long (eqb m read)) (marks-long (eqb m certify)) (length-put (s .request) r 0 ∙ F .sized .request) granted-locks (F .active-jobs) (F .marks-jobs) (F .marks)
+        (F .sleepers-jobs) (F .sleepers)
         (λ d. absurd (d (grant-request s F r m o A)))
         (grant-same s F r m o A)
       where

@@ -125,6 +125,10 @@ isActive s r = member (s .active) r
 abbrev pub hasUnlocked : State → ℕ → Bool
 hasUnlocked s r = member (s .unlocked) r
 
+-- r carries the sleeping mark: it is asleep
+abbrev pub isSleeping : State → ℕ → Bool
+isSleeping s r = member (s .sleeping) r
+
 -- the request that r waits for, as mode * 256 + object; 0 if it does not wait
 abbrev pub requestOf : State → ℕ → ℕ
 requestOf s r = at (s .request) r
@@ -152,14 +156,15 @@ requestedObject s r = objectOfRequest (requestOf s r)
 abbrev pub countsOf : (version processors jobs objects : ℕ) → Counts
 countsOf v p j o = record { version = v; processors = p; jobs = j; objects = o }
 
-abbrev pub stateOf : Counts → List ℕ → List ℕ → List ℕ → ℕ → ℕ → List ℕ → List ℕ → List ℕ → List ℕ → State
-stateOf c ps mr mw a u rs ws cs q = record {
+abbrev pub stateOf : Counts → List ℕ → List ℕ → List ℕ → ℕ → ℕ → ℕ → List ℕ → List ℕ → List ℕ → List ℕ → State
+stateOf c ps mr mw a u z rs ws cs q = record {
   counts = c;
   «processor_of» = ps;
   «may_read» = mr;
   «may_write» = mw;
   active = a;
   unlocked = u;
+  sleeping = z;
   readers = rs;
   writers = ws;
   certified = cs;
@@ -171,25 +176,25 @@ zeros n = replicate n 0
 
 -- 01, Table bytes: "A fresh state has all 128 objects unlocked and every job idle."
 abbrev pub freshState : Counts → List ℕ → List ℕ → List ℕ → State
-freshState c ps mr mw = stateOf c ps mr mw 0 0 (zeros mostObjects) (zeros mostObjects) (zeros markWords) (zeros mostJobs)
+freshState c ps mr mw = stateOf c ps mr mw 0 0 0 (zeros mostObjects) (zeros mostObjects) (zeros markWords) (zeros mostJobs)
 
 -- 01, Refusals: a state "whose numbers are all 0"
 abbrev pub zeroState : State
 zeroState = freshState (countsOf 0 0 0 0) (zeros mostJobs) (zeros mostObjects) (zeros mostObjects)
 
--- the same table with these active jobs, marks of unlocking, readers, writers, certified objects and requests
-abbrev pub withLocks : State → ℕ → ℕ → List ℕ → List ℕ → List ℕ → List ℕ → State
-withLocks s a u rs ws cs q = stateOf (s .counts) (s .«processor_of») (s .«may_read») (s .«may_write») a u rs ws cs q
+-- the same table with these active jobs, marks of unlocking, sleepers, readers, writers, certified objects and requests
+abbrev pub withLocks : State → ℕ → ℕ → ℕ → List ℕ → List ℕ → List ℕ → List ℕ → State
+withLocks s a u z rs ws cs q = stateOf (s .counts) (s .«processor_of») (s .«may_read») (s .«may_write») a u z rs ws cs q
 
 -- ---- changes
 
 -- r becomes active
 unfoldable pub activate : State → ℕ → State
-activate s r = withLocks s (with (s .active) r) (s .unlocked) (s .readers) (s .writers) (s .certified) (s .request)
+activate s r = withLocks s (with (s .active) r) (s .unlocked) (s .sleeping) (s .readers) (s .writers) (s .certified) (s .request)
 
 -- r waits for a lock
 unfoldable pub await : State → ℕ → ℕ → ℕ → State
-await s m r o = withLocks s (s .active) (s .unlocked) (s .readers) (s .writers) (s .certified) (put (s .request) r (requestFor m o))
+await s m r o = withLocks s (s .active) (s .unlocked) (s .sleeping) (s .readers) (s .writers) (s .certified) (put (s .request) r (requestFor m o))
 
 -- what a grant to r in mode m on o makes of the sets of readers, and of the sets of writers
 abbrev pub grantReaders : ℕ → ℕ → ℕ → List ℕ → List ℕ
@@ -205,7 +210,7 @@ grantMarks m o words = if eqb m certify then mark o words else words
 -- r gets a lock and waits no longer; a write lock replaces its read lock, a certify lock its write lock
 unfoldable pub grant : State → ℕ → ℕ → ℕ → State
 grant s m r o =
-    withLocks s (s .active) (s .unlocked) (grantReaders m r o (s .readers)) (grantWriters m r o (s .writers)) (grantMarks m o (s .certified))
+    withLocks s (s .active) (s .unlocked) (s .sleeping) (grantReaders m r o (s .readers)) (grantWriters m r o (s .writers)) (grantMarks m o (s .certified))
     (put (s .request) r 0)
 
 -- what r's unlock of o makes of the sets of readers
@@ -214,7 +219,7 @@ releaseReaders r o sets = put sets o (without (at sets o) r)
 
 -- r gives up its read lock on o, and is marked; the writers are neither looked at nor changed
 unfoldable pub release : State → ℕ → ℕ → State
-release s r o = withLocks s (s .active) (with (s .unlocked) r) (releaseReaders r o (s .readers)) (s .writers) (s .certified) (s .request)
+release s r o = withLocks s (s .active) (with (s .unlocked) r) (s .sleeping) (releaseReaders r o (s .readers)) (s .writers) (s .certified) (s .request)
 
 -- r taken out of every set
 abbrev pub releaseSets : ℕ → List ℕ → List ℕ
@@ -230,8 +235,20 @@ keptIn r writers from (suc n) word =
 unfoldable pub dropMarks : ℕ → List ℕ → List ℕ → List ℕ
 dropMarks r writers words = keptIn r writers 0 64 (at words 1) ∷ keptIn r writers 64 64 (at words 2) ∷ []
 
--- r's run ends: it is idle, unmarked, holds nothing and waits for nothing
+-- the same with these sleepers
+abbrev pub withSleepers : State → ℕ → State
+withSleepers s z = withLocks s (s .active) (s .unlocked) z (s .readers) (s .writers) (s .certified) (s .request)
+
+-- r falls asleep: 02, CR 8: "a sleeping mark, set by event 8"
+unfoldable pub fallAsleep : State → ℕ → State
+fallAsleep s r = withSleepers s (with (s .sleeping) r)
+
+-- r sleeps no longer: "and cleared by event 9"
+unfoldable pub awaken : State → ℕ → State
+awaken s r = withSleepers s (without (s .sleeping) r)
+
+-- r's run ends: it is idle, unmarked, awake, holds nothing and waits for nothing
 unfoldable pub endRun : State → ℕ → State
 endRun s r =
-    withLocks s (without (s .active) r) (without (s .unlocked) r) (releaseSets r (s .readers)) (releaseSets r (s .writers))
+    withLocks s (without (s .active) r) (without (s .unlocked) r) (without (s .sleeping) r) (releaseSets r (s .readers)) (releaseSets r (s .writers))
     (dropMarks r (s .writers) (s .certified)) (put (s .request) r 0)

@@ -1,4 +1,4 @@
--- Well-formed states: refusal 8 of document 01, one definition for each of its clauses, in its order, with what CR 6 of document 02 makes of them and adds.
+-- Well-formed states: refusal 8 of document 01, one definition for each of its clauses, in its order, with what CR 6 and CR 8 of document 02 make of them and add.
 -- Assumes nothing.
 use Prim.Native.Nat.{ℕ, _^_}
 use mathlib.Core.Bool.{Bool, not, _&&_, _||_}
@@ -9,7 +9,7 @@ use Rattle.ranks.specs.Ranks.{isEmpty, subset, disjoint, atMostOne}
 use Rattle.state.specs.declared.Counts.{Counts}
 use Rattle.state.specs.declared.State.{State}
 use Rattle.state.specs.State.{mostJobs, mostObjects, mostProcessors, read, write, certify, isVersion, strongest, isObject, processorOf, declared, declaredAny, mayLock}
-use Rattle.state.specs.State.{holders, holdersAny, holds, isCertified, sharesWithNone, holdsAlready, isActive, hasUnlocked, isWaiting, requestedMode, requestedObject}
+use Rattle.state.specs.State.{holders, holdersAny, holds, isCertified, sharesWithNone, holdsAlready, isActive, hasUnlocked, isSleeping, isWaiting, requestedMode, requestedObject}
 
 -- "A table has 1 to 64 jobs, 1 to 8 processors and 1 to 128 objects."
 abbrev pub countsWithin : Counts → Bool
@@ -110,8 +110,16 @@ certifyFits s o = not (isCertified s o) || (eqb (s .counts .version) 2 && not (i
 unfoldable pub certifiesFit : State → Bool
 certifiesFit s = every mostObjects (certifyFits s)
 
+-- r does not sleep while it waits
+abbrev pub waitsAwake : State → ℕ → Bool
+waitsAwake s r = not (isWaiting s r && isSleeping s r)
+
+-- 02, CR 8: the sleeping mark "is clear for idle and waiting jobs, also in the rules of a well-formed state"
+unfoldable pub sleepersFit : State → Bool
+sleepersFit s = subset (s .sleeping) (s .active) && every mostJobs (waitsAwake s)
+
 -- 8: "the state handed in isn't well formed"
 unfoldable pub wellFormed : State → Bool
 wellFormed s =
     countsFit s && processorsFit s && declarationsFit s && aboveIdle s && locksFit s && oneLockEach s && writersAlone s && waitsFit s && marksFit s
-    && versionFits s && certifiesFit s
+    && versionFits s && certifiesFit s && sleepersFit s

@@ -22,10 +22,10 @@ use Rattle.ranks.specs.UnionLaws.{union-left, union-right, union-either, union-
 use Rattle.state.specs.declared.State.{State}
 use Rattle.state.specs.State.{mostJobs, mostObjects, markWords, read, write, certify, strongest, wordOf, placeOf, isObject, processorOf}
 use Rattle.state.specs.State.{declared, declaredAny, mayLock, holders, holdersAny}
-use Rattle.state.specs.State.{holds, isCertified, sharesWithNone, holdsAlready, isActive, hasUnlocked, requestOf, requestedMode, requestedObject}
+use Rattle.state.specs.State.{holds, isCertified, sharesWithNone, holdsAlready, isActive, hasUnlocked, isSleeping, isWaiting, requestOf, requestedMode, requestedObject}
 use Rattle.state.specs.WellFormed.{processorFits, processorsFit, declarationFits, declarationsFit, ofJobs, declaredOfJobs, aboveIdle}
 use Rattle.state.specs.WellFormed.{heldByActive, heldByRight, locksFit, lockedOnce, oneLockEach, alone, writtenAlone, writersAlone}
-use Rattle.state.specs.WellFormed.{holdsBefore, mayAwait, waitFits, waitsFit, marksFit, certifyFits, certifiesFit, wellFormed}
+use Rattle.state.specs.WellFormed.{holdsBefore, mayAwait, waitFits, waitsFit, marksFit, certifyFits, certifiesFit, waitsAwake, sleepersFit, wellFormed}
 use Rattle.state.specs.Clauses.{Clauses, clauses, well-formed, counts-within, within-counts}
 use Rattle.state.specs.Modes.{either-mode}
 use Rattle.state.specs.Facts.{Sized, In, Alone, LockFacts, RequestFacts, Facts}
@@ -135,8 +135,14 @@ module _ (s : State) (F : Facts s) where
     | no n ↦ simp (ne-eqb (requestOf s r) 0 n) (request-test (requestedMode s r) r (requestedObject s r) (F .requests r n))
   ]
 
+  awake-test : (r : ℕ) → waitsAwake s r ≡ true
+  awake-test r = elim (ℕ-discrete (requestOf s r) 0) [
+    | yes e ↦ simp (eq-eqb (requestOf s r) 0 e)
+    | no n ↦ simp (ne-eqb (requestOf s r) 0 n, F .requests r n .awake)
+  ]
+
   facts-clauses : Clauses s
-  unfolding processorsFit declarationsFit oneLockEach writersAlone waitsFit marksFit certifiesFit
+  unfolding processorsFit declarationsFit oneLockEach writersAlone waitsFit marksFit certifiesFit sleepersFit
   facts-clauses =
       record {
         counts = within-counts (s .counts) (F .counts);
@@ -150,6 +156,9 @@ module _ (s : State) (F : Facts s) where
         marks = member-subset (s .counts .jobs) (s .unlocked) (s .active) (F .marks-jobs) (λ r l. F .marks r);
         version = inside-between 1 2 (s .counts .version) (F .version .0) (F .version .1);
         certifies = every-true mostObjects (certifyFits s) (λ o a b. certify-test o);
+        sleepers =
+            and-true _ _ (member-subset (s .counts .jobs) (s .sleeping) (s .active) (F .sleepers-jobs) (λ r l. F .sleepers r))
+            (every-true mostJobs (waitsAwake s) (λ r a b. awake-test r));
       }
 
   pub facts-well-formed : wellFormed s ≡ true
@@ -264,8 +273,8 @@ module _ (s : State) (z : Sized s) (w : wellFormed s ≡ true) where
     certified = λ e. absurd (clash e (past-certified o d));
   }
 
-  request-fact : (m r o : ℕ) → mayAwait s m r o ≡ true → RequestFacts s m r o
-  request-fact m r o e =
+  request-fact : (m r o : ℕ) → mayAwait s m r o ≡ true → isSleeping s r ≡ false → RequestFacts s m r o
+  request-fact m r o e awake =
       let t1 = between read (strongest (s .counts .version)) m in
       let t2 = t1 && isObject s o in
       let t3 = t2 && isActive s r in
@@ -282,16 +291,27 @@ module _ (s : State) (z : Sized s) (w : wellFormed s ≡ true) where
         object = between-true 1 (s .counts .objects) o (and-right t1 (isObject s o) e2);
         active = and-right t2 (isActive s r) e3;
         not-unlocked = not-true (hasUnlocked s r) (and-right t3 (not (hasUnlocked s r)) e4);
+        awake = awake;
         right = and-right t4 (mayLock s m r o) e5;
         new = not-true (holdsAlready s m r o) (and-right t5 (not (holdsAlready s m r o)) e6);
         before = λ q. simp (eq-eqb m certify q) at (and-right t6 (holdsBefore s m r o) e);
       }
 
+  sleepers-active : subset (s .sleeping) (s .active) ≡ true
+  unfolding sleepersFit
+  sleepers-active = and-left _ _ (C .sleepers)
+
+  awake-fact : (r : ℕ) → requestOf s r ≢ 0 → 1 ≤ r → r ≤ mostJobs → isSleeping s r ≡ false
+  unfolding sleepersFit
+  awake-fact r d a b =
+      let all = every-at mostJobs (waitsAwake s) r (and-right (subset (s .sleeping) (s .active)) _ (C .sleepers)) a b in
+      not-true (isSleeping s r) (simp (ne-eqb (requestOf s r) 0 d) at all)
+
   waiting-fact : (r : ℕ) → requestOf s r ≢ 0 → RequestFacts s (requestedMode s r) r (requestedObject s r)
   unfolding waitsFit
   waiting-fact r d = elim (within mostJobs r) [
     | yes i ↦ request-fact (requestedMode s r) r (requestedObject s r)
-        (simp (ne-eqb (requestOf s r) 0 d) at (every-at mostJobs (waitFits s) r (C .waits) (i .0) (i .1)))
+        (simp (ne-eqb (requestOf s r) 0 d) at (every-at mostJobs (waitFits s) r (C .waits) (i .0) (i .1))) (awake-fact r d (i .0) (i .1))
     | no n ↦ absurd (d (at-out (s .request) mostJobs r (z .request) n))
   ]
 
@@ -308,6 +328,8 @@ module _ (s : State) (z : Sized s) (w : wellFormed s ≡ true) where
     requests = waiting-fact;
     marks = λ r i. subset-member (s .unlocked) (s .active) r (C .marks) i;
     marks-jobs = omega (arith, subset-le (s .unlocked) (s .active) (C .marks), active-fact);
+    sleepers = λ r i. subset-member (s .sleeping) (s .active) r sleepers-active i;
+    sleepers-jobs = omega (arith, subset-le (s .sleeping) (s .active) sleepers-active, active-fact);
     version = between-true 1 2 (s .counts .version) (C .version);
   }
 

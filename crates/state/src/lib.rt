@@ -56,13 +56,14 @@ pub struct State {
     pub may_write: ObjectSets,
     pub active: RankSet,
     pub unlocked: RankSet,
+    pub sleeping: RankSet,
     pub readers: ObjectSets,
     pub writers: ObjectSets,
     pub certified: ObjectMarks,
     pub request: JobRequests,
 }
 
-// Whether the state with these parts is well formed.
+// Whether the state with these parts is well formed. Who has unlocked and who sleeps are looked at together: they are active and wait for nothing.
 pub fn fits<'a>(
     counts: Counts,
     processor_of: &'a JobProcessors,
@@ -70,18 +71,20 @@ pub fn fits<'a>(
     may_write: Sets<'a>,
     active: RankSet,
     unlocked: RankSet,
+    sleeping: RankSet,
     readers: Sets<'a>,
     writers: Sets<'a>,
     certified: &'a ObjectMarks,
     request: &'a JobRequests,
 ) -> bool
     ensures { λ r. ⌜ r ≡ wellFormed (stateOf counts (now («processor_of» .entry)) (now («may_read» .entry)) (now («may_write» .entry))
-        active unlocked (now (readers .entry)) (now (writers .entry)) (now (certified .entry)) (now (request .entry))) ⌝ }
+        active unlocked sleeping (now (readers .entry)) (now (writers .entry)) (now (certified .entry)) (now (request .entry))) ⌝ }
 {
     if !(counts_within(counts) & is_version(counts.version)) {
         return false;
     }
     let all = ranks::up_to(counts.jobs);
+    let marked = ranks::union(unlocked, sleeping);
     let outside = union_outside(may_read, may_write, readers, writers, counts.objects);
     let seen = survey_objects(
         counts.version == 1,
@@ -96,7 +99,7 @@ pub fn fits<'a>(
         & ranks::is_subset(seen.declared, all)
         & ranks::is_subset(seen.held, active)
         & ranks::is_subset(active, all)
-        & ranks::is_subset(unlocked, active)
+        & ranks::is_subset(marked, active)
         & certified_well(counts.version, readers, writers, certified)
         & processors_fit(counts, processor_of)
         & waits_fit(
@@ -104,7 +107,7 @@ pub fn fits<'a>(
             may_read,
             may_write,
             active,
-            unlocked,
+            marked,
             readers,
             writers,
             certified,
@@ -143,15 +146,16 @@ pub fn fits_sized<'a>(
     may_write: Sets<'a>,
     active: RankSet,
     unlocked: RankSet,
+    sleeping: RankSet,
     readers: Sets<'a>,
     writers: Sets<'a>,
     certified: &'a ObjectMarks,
     request: &'a JobRequests,
 ) -> bool
     ensures { λ r. ⌜ (r ≡ wellFormed (stateOf counts (now («processor_of» .entry)) (now («may_read» .entry)) (now («may_write» .entry))
-        active unlocked (now (readers .entry)) (now (writers .entry)) (now (certified .entry)) (now (request .entry))))
+        active unlocked sleeping (now (readers .entry)) (now (writers .entry)) (now (certified .entry)) (now (request .entry))))
         × Sized (stateOf counts (now («processor_of» .entry)) (now («may_read» .entry)) (now («may_write» .entry))
-        active unlocked (now (readers .entry)) (now (writers .entry)) (now (certified .entry)) (now (request .entry))) ⌝ }
+        active unlocked sleeping (now (readers .entry)) (now (writers .entry)) (now (certified .entry)) (now (request .entry))) ⌝ }
 {
     have_lengths(
         processor_of,
@@ -169,6 +173,7 @@ pub fn fits_sized<'a>(
             may_write,
             active,
             unlocked,
+            sleeping,
             readers,
             writers,
             certified,
@@ -180,24 +185,17 @@ pub fn fits_sized<'a>(
 pub fn is_well_formed(state: State) -> bool
     ensures { λ r. ⌜ (r ≡ wellFormed state) × Sized state ⌝ }
 {
-    let counts = state.counts;
-    let processor_of = state.processor_of;
-    let may_read = state.may_read;
-    let may_write = state.may_write;
-    let readers = state.readers;
-    let writers = state.writers;
-    let certified = state.certified;
-    let request = state.request;
-    fits(
-        counts,
-        &processor_of,
-        &may_read,
-        &may_write,
+    fits_sized(
+        state.counts,
+        &state.processor_of,
+        &state.may_read,
+        &state.may_write,
         state.active,
         state.unlocked,
-        &readers,
-        &writers,
-        &certified,
-        &request,
+        state.sleeping,
+        &state.readers,
+        &state.writers,
+        &state.certified,
+        &state.request,
     )
 }

@@ -80,6 +80,7 @@ fn answer(bench: Bench, count: usize, bytes: &[u8], lines: &mut [u8]) -> Advance
     let state = bench.state;
     let mut active = state.active;
     let mut unlocked = state.unlocked;
+    let mut sleeping = state.sleeping;
     let mut readers = state.readers;
     let mut writers = state.writers;
     let mut certified = state.certified;
@@ -92,6 +93,7 @@ fn answer(bench: Bench, count: usize, bytes: &[u8], lines: &mut [u8]) -> Advance
         &state.may_write,
         &mut active,
         &mut unlocked,
+        &mut sleeping,
         &mut readers,
         &mut writers,
         &mut certified,
@@ -103,6 +105,7 @@ fn answer(bench: Bench, count: usize, bytes: &[u8], lines: &mut [u8]) -> Advance
     let mut next = state;
     next.active = active;
     next.unlocked = unlocked;
+    next.sleeping = sleeping;
     next.readers = readers;
     next.writers = writers;
     next.certified = certified;

@@ -24,6 +24,7 @@ pub extern "C" fn vongselik_parts_page<'a>(
     may_write: Sets<'a>,
     active: RankSet,
     unlocked: RankSet,
+    sleeping: RankSet,
     readers: Sets<'a>,
     writers: Sets<'a>,
     certified: &'a ObjectMarks,
@@ -32,11 +33,11 @@ pub extern "C" fn vongselik_parts_page<'a>(
     length: &mut usize,
 ) -> u8
     ensures number { λ r. ⌜ r ≡ writePage (stateOf (countsOf version processors jobs objects) (now («processor_of» .entry)) (now («may_read» .entry)) (now («may_write» .entry))
-        active unlocked (now (readers .entry)) (now (writers .entry)) (now (certified .entry)) (now (request .entry))) (now (buffer .entry)) .refusal ⌝ }
+        active unlocked sleeping (now (readers .entry)) (now (writers .entry)) (now (certified .entry)) (now (request .entry))) (now (buffer .entry)) .refusal ⌝ }
     ensures buffer { λ _. ⌜ now (buffer .exit) ≡ pageWritten (stateOf (countsOf version processors jobs objects) (now («processor_of» .entry)) (now («may_read» .entry)) (now («may_write» .entry))
-        active unlocked (now (readers .entry)) (now (writers .entry)) (now (certified .entry)) (now (request .entry))) (now (buffer .entry)) ⌝ }
+        active unlocked sleeping (now (readers .entry)) (now (writers .entry)) (now (certified .entry)) (now (request .entry))) (now (buffer .entry)) ⌝ }
     ensures length { λ _. ⌜ now (length .exit) ≡ value (writePage (stateOf (countsOf version processors jobs objects) (now («processor_of» .entry)) (now («may_read» .entry)) (now («may_write» .entry))
-        active unlocked (now (readers .entry)) (now (writers .entry)) (now (certified .entry)) (now (request .entry))) (now (buffer .entry))) 0 (now (length .entry)) ⌝ }
+        active unlocked sleeping (now (readers .entry)) (now (writers .entry)) (now (certified .entry)) (now (request .entry))) (now (buffer .entry))) 0 (now (length .entry)) ⌝ }
 {
     let counts = Counts {
         version,
@@ -51,6 +52,7 @@ pub extern "C" fn vongselik_parts_page<'a>(
         may_write,
         active,
         unlocked,
+        sleeping,
         readers,
         writers,
         certified,

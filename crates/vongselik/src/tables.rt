@@ -29,6 +29,7 @@ pub extern "C" fn vongselik_parts_read_table(
     may_write: SetsMut,
     active: &mut RankSet,
     unlocked: &mut RankSet,
+    sleeping: &mut RankSet,
     readers: SetsMut,
     writers: SetsMut,
     certified: &mut ObjectMarks,
@@ -37,10 +38,10 @@ pub extern "C" fn vongselik_parts_read_table(
     ensures number { λ r. ⌜ r ≡ readTable (now (bytes .entry)) .refusal ⌝ }
     ensures used { λ _. ⌜ now (used .exit) ≡ usedRead (readTable (now (bytes .entry))) (now (used .entry)) ⌝ }
     ensures state { λ _. ⌜ stateOf (countsOf (now (version .exit)) (now (processors .exit)) (now (jobs .exit)) (now (objects .exit))) (now («processor_of» .exit)) (now («may_read» .exit)) (now («may_write» .exit))
-        (now (active .exit)) (now (unlocked .exit)) (now (readers .exit)) (now (writers .exit)) (now (certified .exit)) (now (request .exit))
+        (now (active .exit)) (now (unlocked .exit)) (now (sleeping .exit)) (now (readers .exit)) (now (writers .exit)) (now (certified .exit)) (now (request .exit))
         ≡ stateRead (readTable (now (bytes .entry)))
         (stateOf (countsOf (now (version .entry)) (now (processors .entry)) (now (jobs .entry)) (now (objects .entry))) (now («processor_of» .entry)) (now («may_read» .entry)) (now («may_write» .entry))
-        (now (active .entry)) (now (unlocked .entry)) (now (readers .entry)) (now (writers .entry)) (now (certified .entry)) (now (request .entry))) ⌝ }
+        (now (active .entry)) (now (unlocked .entry)) (now (sleeping .entry)) (now (readers .entry)) (now (writers .entry)) (now (certified .entry)) (now (request .entry))) ⌝ }
 {
     let read = table::read_table(bytes);
     if read.refusal != 0 {
@@ -61,6 +62,7 @@ pub extern "C" fn vongselik_parts_read_table(
     *may_write = next_may_write;
     *active = next.active;
     *unlocked = next.unlocked;
+    *sleeping = next.sleeping;
     let next_readers = next.readers;
     *readers = next_readers;
     let next_writers = next.writers;
@@ -84,6 +86,7 @@ pub extern "C" fn vongselik_parts_write_table<'a>(
     may_write: Sets<'a>,
     active: RankSet,
     unlocked: RankSet,
+    sleeping: RankSet,
     readers: Sets<'a>,
     writers: Sets<'a>,
     certified: &'a ObjectMarks,
@@ -92,11 +95,11 @@ pub extern "C" fn vongselik_parts_write_table<'a>(
     length: &mut usize,
 ) -> u8
     ensures number { λ r. ⌜ r ≡ writeTable (stateOf (countsOf version processors jobs objects) (now («processor_of» .entry)) (now («may_read» .entry)) (now («may_write» .entry))
-        active unlocked (now (readers .entry)) (now (writers .entry)) (now (certified .entry)) (now (request .entry))) (now (buffer .entry)) .refusal ⌝ }
+        active unlocked sleeping (now (readers .entry)) (now (writers .entry)) (now (certified .entry)) (now (request .entry))) (now (buffer .entry)) .refusal ⌝ }
     ensures buffer { λ _. ⌜ now (buffer .exit) ≡ written (stateOf (countsOf version processors jobs objects) (now («processor_of» .entry)) (now («may_read» .entry)) (now («may_write» .entry))
-        active unlocked (now (readers .entry)) (now (writers .entry)) (now (certified .entry)) (now (request .entry))) (now (buffer .entry)) ⌝ }
+        active unlocked sleeping (now (readers .entry)) (now (writers .entry)) (now (certified .entry)) (now (request .entry))) (now (buffer .entry)) ⌝ }
     ensures length { λ _. ⌜ now (length .exit) ≡ value (writeTable (stateOf (countsOf version processors jobs objects) (now («processor_of» .entry)) (now («may_read» .entry)) (now («may_write» .entry))
-        active unlocked (now (readers .entry)) (now (writers .entry)) (now (certified .entry)) (now (request .entry))) (now (buffer .entry))) 0 (now (length .entry)) ⌝ }
+        active unlocked sleeping (now (readers .entry)) (now (writers .entry)) (now (certified .entry)) (now (request .entry))) (now (buffer .entry))) 0 (now (length .entry)) ⌝ }
 {
     let counts = Counts {
         version,
@@ -111,6 +114,7 @@ pub extern "C" fn vongselik_parts_write_table<'a>(
         may_write: *may_write,
         active,
         unlocked,
+        sleeping,
         readers: *readers,
         writers: *writers,
         certified: *certified,

@@ -11,14 +11,14 @@ use Rattle.manager.proofs.answer_each.Statement.{statement}
 use Rattle.manager.proofs.answer_each.Tie as tie
 
 abbrev Inv-loop : tie.InvT-loop
-Inv-loop well counts processor-of may-read may-write active₀ unlocked₀ readers₀ writers₀ certified₀ request₀ events answers₀ at₀ i₀ active unlocked readers writers certified request answers at i =
+Inv-loop well counts processor-of may-read may-write active₀ unlocked₀ sleeping₀ readers₀ writers₀ certified₀ request₀ events answers₀ at₀ i₀ active unlocked sleeping readers writers certified request answers at i =
     Answered events well
-    (stateOf counts processor-of may-read may-write active₀ unlocked₀ readers₀ writers₀ certified₀ request₀)
-    (stateOf counts processor-of may-read may-write active unlocked readers writers certified request)
+    (stateOf counts processor-of may-read may-write active₀ unlocked₀ sleeping₀ readers₀ writers₀ certified₀ request₀)
+    (stateOf counts processor-of may-read may-write active unlocked sleeping readers writers certified request)
     answers₀ answers at i
 
 abbrev μ-loop : tie.MeasureT-loop
-μ-loop well counts processor-of may-read may-write active₀ unlocked₀ readers₀ writers₀ certified₀ request₀ events answers₀ at₀ i₀ active unlocked readers writers certified request answers at i =
+μ-loop well counts processor-of may-read may-write active₀ unlocked₀ sleeping₀ readers₀ writers₀ certified₀ request₀ events answers₀ at₀ i₀ active unlocked sleeping readers writers certified request answers at i =
     length events - at
 
 loop-holds : tie.Need-loop-holds Inv-loop μ-loop

@@ -4,6 +4,8 @@
 use denote.Ref.{now}
 use mathlib.Core.Path.{_≡_, sym, ap, ap₂, _∙_}
 use mathlib.Core.Bool.{true, _&&_}
+use mathlib.Core.List.{[]}
+use Prim.Native.Nat.{ℕ}
 use borrow.Author.Tests.{not-true, not-false}
 use Rattle.basics.specs.Choice.{and-left, and-right, between-true}
 use Rattle.ranks.specs.Ranks.{subset}
@@ -19,6 +21,7 @@ use Rattle.state.proofs.fits.Reads as reads
 use Rattle.state.proofs.fits.Lts as lts
 use Rattle.ranks.proofs.is_empty.Reads as is-empty-reads
 use Rattle.ranks.proofs.is_subset.Reads as is-subset-reads
+use Rattle.ranks.proofs.union.Reads as union-reads
 use Rattle.ranks.proofs.up_to.Reads as up-to-reads
 use Rattle.state.proofs.jobs.counts_within.Reads as counts-within-reads
 use Rattle.state.proofs.jobs.is_version.Reads as is-version-reads
@@ -32,7 +35,7 @@ use Rattle.state.proofs.marks.certified_well.Reads as certified-well-re
 abbrev whole : (c : tie.Start) → State
 whole c = let a = c .args in
     stateOf (a .counts) (now (a .processor-of)) (now (a .may-read)) (now (a .may-write))
-    (a .active) (a .unlocked) (now (a .readers)) (now (a .writers)) (now (a .certified)) (now (a .request))
+    (a .active) (a .unlocked) (a .sleeping) (now (a .readers)) (now (a .writers)) (now (a .certified)) (now (a .request))
 
 -- the counts and the version are within their limits
 tested : (c : tie.Else1) → let s = whole (c .before .before .before) in (countsFit s ≡ true) × (versionFits s ≡ true)
@@ -55,11 +58,14 @@ returns c =
 up-to-requires : tie.Need-up-to-requires
 up-to-requires c κs = counts-within (c .before .before .before .args .counts) (tested c .0) .jobs .1
 
+union-requires : tie.Need-union-requires
+union-requires c κs = search needs
+
 union-outside-requires : tie.Need-union-outside-requires
-union-outside-requires c κs = counts-within (c .before .before .before .before .args .counts) (tested (c .before) .0) .objects .1
+union-outside-requires c κs = counts-within (c .before .before .before .before .before .args .counts) (tested (c .before .before) .0) .objects .1
 
 survey-objects-requires : tie.Need-survey-objects-requires
-survey-objects-requires c κs = counts-within (c .before .before .before .before .before .before .args .counts) (tested (c .before .before .before) .0) .objects .1
+survey-objects-requires c κs = counts-within (c .before .before .before .before .before .before .before .args .counts) (tested (c .before .before .before .before) .0) .objects .1
 
 is-empty-requires : tie.Need-is-empty-requires
 is-empty-requires c κs = search needs
@@ -83,25 +89,28 @@ certified-well-requires : tie.Need-certified-well-requires
 certified-well-requires c κs = search needs
 
 processors-fit-requires : tie.Need-processors-fit-requires
-processors-fit-requires c κs = let w = counts-within (c .before .before .before .before .before .before .before .before .before .before .before .before .before .before .args .counts) (tested (c .before .before .before .before .before .before .before .before .before .before .before) .0) in (w .processors .0, w .jobs .1)
+processors-fit-requires c κs = let w = counts-within (c .before .before .before .before .before .before .before .before .before .before .before .before .before .before .before .args .counts) (tested (c .before .before .before .before .before .before .before .before .before .before .before .before) .0) in (w .processors .0, w .jobs .1)
 
 waits-fit-requires : tie.Need-waits-fit-requires
 waits-fit-requires c κs =
-    let t = tested (c .before .before .before .before .before .before .before .before .before .before .before .before) in
-    (between-true 1 2 (c .before .before .before .before .before .before .before .before .before .before .before .before .before .before .before .args .counts .version) (t .1) .1, counts-within (c .before .before .before .before .before .before .before .before .before .before .before .before .before .before .before .args .counts) (t .0) .objects .1)
+    let t = tested (c .before .before .before .before .before .before .before .before .before .before .before .before .before) in
+    (between-true 1 2 (c .before .before .before .before .before .before .before .before .before .before .before .before .before .before .before .before .args .counts .version) (t .1) .1, counts-within (c .before .before .before .before .before .before .before .before .before .before .before .before .before .before .before .before .args .counts) (t .0) .objects .1)
 
 returns-2 : tie.Need-returns-2
 unfolding processorsFit waitsFit
 returns-2 c =
-    let t = tested (c .before .before .before .before .before .before .before .before .before .before .before .before .before) in
-    let s = whole ((c .before .before .before .before .before .before .before .before .before .before .before .before .before .before .before .before)) in
+    let t = tested (c .before .before .before .before .before .before .before .before .before .before .before .before .before .before) in
+    let s = whole ((c .before .before .before .before .before .before .before .before .before .before .before .before .before .before .before .before .before)) in
     let seen = c .before .before .before .before .before .before .before .before .before .survey-objects .result in
     let outside = c .before .before .before .before .before .before .before .before .before .before .before .union-outside .result in
-    let all = c .before .before .before .before .before .before .before .before .before .before .before .before .up-to .ensures in
+    let all = c .before .before .before .before .before .before .before .before .before .before .before .before .before .up-to .ensures in
+    let joined = c .before .before .before .before .before .before .before .before .before .before .before .before .union .ensures in
+    let marked = c .before .before .before .is-subset4 .ensures ∙ ap (λ (m : ℕ). subset m (s .active)) joined in
+    let waits = c .waits-fit .ensures ∙ ap (λ (m : ℕ). waitsFit (stateOf (s .counts) [] (s .«may_read») (s .«may_write») (s .active) m 0 (s .readers) (s .writers) (s .certified) (s .request))) joined in
     let declared = c .before .before .before .before .before .before .is-subset .ensures ∙ ap (subset (seen .declared)) all in
     let active = c .before .before .before .before .is-subset3 .ensures ∙ ap (subset (s .active)) all in
     let objects = ap₂ _&&_ (ap₂ _&&_ (ap₂ _&&_ (c .before .before .before .before .before .before .before .before .is-empty .ensures) (c .before .before .before .before .before .before .before .is-empty2 .ensures)) declared) (c .before .before .before .before .before .is-subset2 .ensures) in
-    ap₂ _&&_ (ap₂ _&&_ (ap₂ _&&_ (ap₂ _&&_ (ap₂ _&&_ objects active) (c .before .before .before .is-subset4 .ensures)) (c .before .before .certified-well .ensures)) (c .before .processors-fit .ensures)) (c .waits-fit .ensures)
+    ap₂ _&&_ (ap₂ _&&_ (ap₂ _&&_ (ap₂ _&&_ (ap₂ _&&_ objects active) marked) (c .before .before .certified-well .ensures)) (c .before .processors-fit .ensures)) waits
     ∙ tests-well s (t .0) (t .1) seen outside (c .before .before .before .before .before .before .before .before .before .survey-objects .ensures) (c .before .before .before .before .before .before .before .before .before .before .before .union-outside .ensures)
 
 pub fits-spec : {M : Type 1} → statement M
@@ -112,6 +121,7 @@ fits-spec =
     is-version-requires
     returns
     up-to-requires
+    union-requires
     union-outside-requires
     survey-objects-requires
     is-empty-requires
