@@ -1,5 +1,5 @@
--- The chain of Refusals.antt over the parts of a state that the code sees: for a request, with 15 to 17 by the sets of its object, for one to certify, and for
--- a run's end.
+-- The chain of Refusals.antt over the parts of a state that the code sees: 14 and 26 together; for a request, with 15 to 17 by the sets of its object, for one to
+-- certify, for a run's end, and for kinds 8 and 9.
 -- Assumes nothing.
 use mathlib.Core.Path.{_≡_, refl, sym, subst, ap, _∙_}
 use mathlib.Core.Logic.{_≢_}
@@ -10,14 +10,27 @@ use native.Mathlib.Omega.{arith}
 use native.Mathlib.Decide.{ℕ-discrete}
 use lib.Dec.{eqb}
 use borrow.Author.Tests.{eqb-true, eqb-false, eq-eqb, ne-eqb}
-use Rattle.basics.specs.Choice.{_if_else_, clash, or-right, inside-between}
+use Rattle.basics.specs.Choice.{_if_else_, _orElse_, clash, or-right, inside-between}
 use Rattle.basics.specs.Arrays.{at}
 use Rattle.basics.specs.Loops.{every, every-at, every-true, every-same}
 use Rattle.ranks.specs.Ranks.{member, unions}
 use Rattle.ranks.specs.UnionLaws.{member-unions}
 use Rattle.state.specs.declared.State.{State}
-use Rattle.state.specs.State.{read, write, certify, ofMode, isRank, isObject, declared, holders, holds, marked, isCertified, isActive, isWaiting}
+use Rattle.state.specs.State.{read, write, certify, ofMode, isRank, isObject, declared, holders, holds, marked, isCertified, isActive, isWaiting, isSleeping}
 use Rattle.refusals.specs.Refusals.{allCertified, eventRefusal}
+
+-- 14 and 26 of rank r, by the requests and the set of those that sleep, if its kind is for a job that neither waits nor sleeps
+abbrev pub readyRefusal : Bool → List ℕ → ℕ → ℕ → ℕ
+readyRefusal ready requests sleeping r =
+    14 if ready && not (eqb (at requests r) 0) else
+    26 if ready && member sleeping r else
+    0
+
+-- they stand in the chain before the rest
+pub ready-first : (waits sleeps : Bool) (rest : ℕ) → ((14 if waits else 26 if sleeps else 0) orElse rest) ≡ (14 if waits else 26 if sleeps else rest)
+ready-first true sleeps rest = refl
+ready-first false true rest = refl
+ready-first false false rest = refl
 
 -- 15 to 17 of rank r's request in mode m, by the set of those that have unlocked and the sets of the object
 abbrev pub rightRefusal : ℕ → ℕ → ℕ → ℕ → ℕ → ℕ → ℕ → ℕ
@@ -33,16 +46,19 @@ pub request-refusal : (s : State) (k r o : ℕ) → 2 ≤ k → k ≤ 3
     11 if not (isObject s o) else
     13 if not (isActive s r) else
     14 if isWaiting s r else
+    26 if isSleeping s r else
     rightRefusal (k - 1) r (s .unlocked) (declared s read o) (declared s write o) (holders s read o) (holders s write o))
 unfolding eventRefusal
 request-refusal s k r o low high =
     simp (
-      inside-between 1 7 k (omega arith) (omega arith),
+      inside-between 1 9 k (omega arith) (omega arith),
       inside-between 2 3 k low high,
+      inside-between 2 5 k low (omega arith),
       ne-eqb k 1 (λ e. omega arith),
       ne-eqb k 4 (λ e. omega arith),
       ne-eqb k 5 (λ e. omega arith),
       ne-eqb k 7 (λ e. omega arith),
+      ne-eqb k 9 (λ e. omega arith),
       ne-eqb (k - 1) certify (λ e. omega arith),
     )
 
@@ -63,6 +79,7 @@ pub certify-refusal : (s : State) (r o : ℕ)
     11 if not (isObject s o) else
     13 if not (isActive s r) else
     14 if isWaiting s r else
+    26 if isSleeping s r else
     certifyRefusal r (s .unlocked) (declared s write o) (holders s write o) (isCertified s o))
 unfolding eventRefusal
 certify-refusal s r o = twice-not (eqb (s .counts .version) 1)
@@ -73,6 +90,7 @@ certify-refusal s r o = twice-not (eqb (s .counts .version) 1)
         11 if not (isObject s o) else
         13 if not (isActive s r) else
         14 if isWaiting s r else
+        26 if isSleeping s r else
         certifyRefusal r (s .unlocked) (declared s write o) (holders s write o) (isCertified s o)
 
     twice-not : (b : Bool) → (9 if not (not b) else rest) ≡ (9 if b else rest)
@@ -82,7 +100,7 @@ certify-refusal s r o = twice-not (eqb (s .counts .version) 1)
 -- behind 9, 10 and 11
 pub certify-behind : (s : State) (r o : ℕ) → eqb (s .counts .version) 1 ≡ false → isRank s r ≡ true → isObject s o ≡ true
     → eventRefusal s 7 r o
-    ≡ (13 if not (isActive s r) else 14 if isWaiting s r else certifyRefusal r (s .unlocked) (declared s write o) (holders s write o) (isCertified s o))
+    ≡ (13 if not (isActive s r) else 14 if isWaiting s r else 26 if isSleeping s r else certifyRefusal r (s .unlocked) (declared s write o) (holders s write o) (isCertified s o))
 certify-behind s r o version rank object = certify-refusal s r o ∙ behind (eqb (s .counts .version) 1) (isRank s r) (isObject s o) _ version rank object
   where
     behind : (a b c : Bool) (rest : ℕ) → a ≡ false → b ≡ true → c ≡ true → (9 if a else 10 if not b else 11 if not c else rest) ≡ rest
@@ -156,7 +174,7 @@ certify-first-some s k r e = go (eqb (s .counts .version) 1) refl (eqb k 5) e
 pub finish-refusal : (s : State) (k r o : ℕ) → 5 ≤ k → k ≤ 6
     → eventRefusal s k r o
     ≡ (10 if not (isRank s r) else 11 if not (eqb o 0) else 13 if not (isActive s r) else 14 if eqb k 5 && isWaiting s r else
-    25 if eqb k 5 && not (allCertified s r) else 0)
+    26 if eqb k 5 && isSleeping s r else 25 if eqb k 5 && not (allCertified s r) else 0)
 unfolding eventRefusal
 finish-refusal s k r o low high = elim (ℕ-discrete k 5) [
   | yes e ↦ subst (λ (n : ℕ). eventRefusal s n r o ≡ by n) (sym e) refl
@@ -165,4 +183,19 @@ finish-refusal s k r o low high = elim (ℕ-discrete k 5) [
   where
     by : ℕ → ℕ
     by n = 10 if not (isRank s r) else 11 if not (eqb o 0) else 13 if not (isActive s r) else 14 if eqb n 5 && isWaiting s r else
-        25 if eqb n 5 && not (allCertified s r) else 0
+        26 if eqb n 5 && isSleeping s r else 25 if eqb n 5 && not (allCertified s r) else 0
+
+-- of kind 8, a job that falls asleep, or 9, one that is awakened
+pub sleep-refusal : (s : State) (k r o : ℕ) → 8 ≤ k → k ≤ 9
+    → eventRefusal s k r o
+    ≡ (10 if not (isRank s r) else 11 if not (eqb o 0) else 13 if not (isActive s r) else 14 if eqb k 8 && isWaiting s r else
+    26 if eqb k 8 && isSleeping s r else 27 if eqb k 9 && not (isSleeping s r) else 0)
+unfolding eventRefusal
+sleep-refusal s k r o low high = elim (ℕ-discrete k 8) [
+  | yes e ↦ subst (λ (n : ℕ). eventRefusal s n r o ≡ by n) (sym e) refl
+  | no d ↦ (let e : k ≡ 9 = omega arith in subst (λ (n : ℕ). eventRefusal s n r o ≡ by n) (sym e) refl)
+]
+  where
+    by : ℕ → ℕ
+    by n = 10 if not (isRank s r) else 11 if not (eqb o 0) else 13 if not (isActive s r) else 14 if eqb n 8 && isWaiting s r else
+        26 if eqb n 8 && isSleeping s r else 27 if eqb n 9 && not (isSleeping s r) else 0

@@ -1,5 +1,5 @@
--- The refusals 8 to 19, 21, 24 and 25 of events and questions (01, "Refusals by who can cause them"; 02, CR 1 and CR 6): "Order: 8, then as numbered.", with
--- 25 after 14, 24 after 17 and 21 after 18.
+-- The refusals 8 to 19, 21 and 24 to 27 of events and questions (01, "Refusals by who can cause them"; 02, CR 1, CR 6 and CR 8): "Order: 8, then as numbered.",
+-- with 26, 27 and 25 after 14, 24 after 17 and 21 after 18.
 -- Assumes nothing.
 use Prim.Native.Nat.{ℕ, _-_}
 use mathlib.Core.Bool.{Bool, not, _&&_, _||_}
@@ -8,12 +8,12 @@ use Rattle.basics.specs.Choice.{if_then_else_, _if_else_, between}
 use Rattle.basics.specs.Loops.{every}
 use Rattle.state.specs.declared.State.{State}
 use Rattle.ranks.specs.Ranks.{member}
-use Rattle.state.specs.State.{write, certify, sharesWithNone, isRank, isObject, mayLock, holds, holdsAlready, holdsAny, isActive, isWaiting, hasUnlocked}
+use Rattle.state.specs.State.{write, certify, sharesWithNone, isRank, isObject, mayLock, holds, holdsAlready, holdsAny, isActive, isWaiting, isSleeping, hasUnlocked}
 use Rattle.state.specs.WellFormed.{wellFormed}
 
--- "9 kind not 1 to" 7; of event 7 "on a version 1 table it is refused by 9"
+-- 02, CR 8: "9 now means not 1 to 9, or 7 on a version 1 table"
 abbrev pub isKind : ℕ → ℕ → Bool
-isKind version k = between 1 7 k && not (eqb k 7 && eqb version 1)
+isKind version k = between 1 9 k && not (eqb k 7 && eqb version 1)
 
 -- kinds 2 read-lock, 3 write-lock and 7 certify ask for a lock
 abbrev pub isRequest : ℕ → Bool
@@ -23,11 +23,15 @@ isRequest k = between 2 3 k || eqb k 7
 abbrev pub modeOf : ℕ → ℕ
 modeOf k = if eqb k 7 then certify else k - 1
 
+-- kinds 2 to 5, 7 and 8 are for a job that neither waits nor sleeps: 14 refuses them "for a waiting job", and 26 is "a sleeping job's event of kind 2 to 5, 7 or 8"
+abbrev pub forReady : ℕ → Bool
+forReady k = between 2 5 k || between 7 8 k
+
 -- each write lock of r is one that shares with none: in version 2, "a write lock not certified" is none of them
 unfoldable pub allCertified : State → ℕ → Bool
 allCertified s r = every (s .counts .objects) (λ o. not (holds s write r o) || sharesWithNone s o)
 
--- "11 object out of range, or not 0 for kinds 1, 5, 6": what kind k may carry
+-- "11 object out of range, or not 0 for kinds 1, 5, 6", and of events 8 and 9 "Both events carry object 0 (else 11)": what kind k may carry
 abbrev pub objectAllowed : State → ℕ → ℕ → Bool
 objectAllowed s k o = if isRequest k || eqb k 4 then isObject s o else eqb o 0
 
@@ -36,7 +40,8 @@ objectAllowed s k o = if isRequest k || eqb k 4 then isObject s o else eqb o 0
 -- 15 lock after an unlock; 16 lock whose right is not declared; 17 that lock or the write lock already held; 18 unlock of a lock not held."
 -- 02, CR 1: "Refused: 21, unlock of a write lock, after 18." 02, CR 6: "A certified object .. like a write lock, can't be unlocked early (21)";
 -- "Refusals 14 and 15 cover event 7 too, 16 there means the right to write"; "Refused: 24, certify without the write lock, after 17;
--- 25, on a version 2 table finish with a write lock not certified, after 14."
+-- 25, on a version 2 table finish with a write lock not certified, after 14." 02, CR 8: "Refused: 26, a sleeping job's event of kind 2 to 5, 7 or 8;
+-- 27, waking one that isn't asleep; both directly after 14, so before 15 and 25; 14 now covers kind 8 for waiting jobs, as 13 covers 8 and 9 for idle ones."
 -- Of an event in a well-formed state, 0 if it is accepted.
 unfoldable pub eventRefusal : State → ℕ → ℕ → ℕ → ℕ
 eventRefusal s k r o =
@@ -45,7 +50,9 @@ eventRefusal s k r o =
     11 if not (objectAllowed s k o) else
     12 if eqb k 1 && isActive s r else
     13 if not (eqb k 1) && not (isActive s r) else
-    14 if (isRequest k || between 4 5 k) && isWaiting s r else
+    14 if forReady k && isWaiting s r else
+    26 if forReady k && isSleeping s r else
+    27 if eqb k 9 && not (isSleeping s r) else
     25 if eqb k 5 && not (allCertified s r) else
     15 if isRequest k && hasUnlocked s r else
     16 if isRequest k && not (mayLock s (modeOf k) r o) else

@@ -4,7 +4,7 @@ ghost use mathlib.Core.Bool.{true, not, _&&_};
 ghost use mathlib.Core.List.{List};
 ghost use Prim.Native.Nat.{ℕ, _+_, _-_, _≤_};
 ghost use lib.Dec.{eqb};
-ghost use Rattle.basics.specs.Choice.{_if_else_};
+ghost use Rattle.basics.specs.Choice.{_if_else_, _orElse_};
 ghost use Rattle.basics.specs.Arrays.{at};
 ghost use Rattle.basics.specs.Loops.{every};
 ghost use Rattle.state.specs.State.{mostJobs, mostObjects, stateOf};
@@ -39,19 +39,21 @@ pub fn set_of(sets: Sets, object: u8) -> RankSet
     sets[(object - 1) as usize]
 }
 
-// 13 for an idle job, 14 where the job waits and the kind is none for a waiting one; else the rest.
-fn job_event_refusal(active: bool, waiting: bool, rest: u8) -> u8
-    ensures { λ r. ⌜ r ≡ (13 if not active else 14 if waiting else rest) ⌝ }
+// 13 for an idle job, then what is found of its waiting and sleeping, if anything; else the rest.
+fn job_event_refusal(active: bool, not_ready: u8, rest: u8) -> u8
+    ensures { λ r. ⌜ r ≡ (13 if not active else («not_ready» orElse rest)) ⌝ }
 {
-    refused_if(13, !active, refused_if(14, waiting, rest))
+    refused_if(13, !active, refused_if(not_ready, not_ready != 0, rest))
 }
 
-// Whether the rank has a request that waits.
-fn is_waiting(request: &JobRequests, rank: u8) -> bool
+// 14 where the rank has a request that waits, 26 where it sleeps, if its kind is for a job that does neither; else 0.
+fn ready_refusal(ready: bool, request: &JobRequests, sleeping: RankSet, rank: u8) -> u8
     requires { ⌜ (1 ≤ rank) × (rank ≤ mostJobs) ⌝ }
-    ensures { λ r. ⌜ r ≡ not (eqb (at (now (request .entry)) rank) 0) ⌝ }
+    ensures { λ r. ⌜ r ≡ P.readyRefusal ready (now (request .entry)) sleeping rank ⌝ }
 {
-    request[(rank - 1) as usize] != 0
+    let waits = request[(rank - 1) as usize] != 0;
+    let sleeps = ranks::contains(sleeping, rank);
+    refused_if(14, ready & waits, refused_if(26, ready & sleeps, 0))
 }
 
 // 10 to 12, of a start.
@@ -75,7 +77,6 @@ fn right_refusal(
     mode: u8,
     rank: u8,
     unlocked: RankSet,
-    sleeping: RankSet,
     may_read: RankSet,
     may_write: RankSet,
     readers: RankSet,
@@ -92,7 +93,7 @@ fn right_refusal(
     refused_if(15, ranks::contains(unlocked, rank), no_right)
 }
 
-// 10, 11 and 13 to 17, of a request for a lock: kind 2 to read, 3 to write.
+// 10, 11, 13 to 17 and 26, of a request for a lock: kind 2 to read, 3 to write.
 pub fn lock_refusal<'a>(
     counts: Counts,
     may_read: Sets<'a>,
@@ -122,7 +123,6 @@ pub fn lock_refusal<'a>(
         kind - 1,
         rank,
         unlocked,
-        sleeping,
         set_of(may_read, object),
         set_of(may_write, object),
         set_of(readers, object),
@@ -130,15 +130,16 @@ pub fn lock_refusal<'a>(
     );
     job_event_refusal(
         ranks::contains(active, rank),
-        is_waiting(request, rank),
+        ready_refusal(true, request, sleeping, rank),
         right,
     )
 }
 
-// 10, 11, 13, 14, 18 and 21, of an unlock.
+// 10, 11, 13, 14, 18, 21 and 26, of an unlock.
 pub fn unlock_refusal<'a>(
     counts: Counts,
     active: RankSet,
+    sleeping: RankSet,
     readers: Sets<'a>,
     writers: Sets<'a>,
     request: &'a JobRequests,
@@ -146,8 +147,8 @@ pub fn unlock_refusal<'a>(
     object: u8,
 ) -> u8
     requires { ⌜ (counts .jobs ≤ mostJobs) × (counts .objects ≤ mostObjects) ⌝ }
-    ensures { λ r. ⌜ ((u z : ℕ) (ps mr mw cs : List ℕ) →
-        r ≡ R.eventRefusal (stateOf counts ps mr mw active u z (now (readers .entry)) (now (writers .entry)) cs (now (request .entry))) 4 rank object) ⌝ }
+    ensures { λ r. ⌜ ((u : ℕ) (ps mr mw cs : List ℕ) →
+        r ≡ R.eventRefusal (stateOf counts ps mr mw active u sleeping (now (readers .entry)) (now (writers .entry)) cs (now (request .entry))) 4 rank object) ⌝ }
 {
     if !within(1, counts.jobs, rank) {
         return 10;
@@ -160,12 +161,12 @@ pub fn unlock_refusal<'a>(
     let to_write = refused_if(21, written, 0);
     job_event_refusal(
         ranks::contains(active, rank),
-        is_waiting(request, rank),
+        ready_refusal(true, request, sleeping, rank),
         refused_if(18, !(read | written), to_write),
     )
 }
 
-// 9 to 11, 13 to 17 and 24, of a request to certify, kind 7.
+// 9 to 11, 13 to 17, 24 and 26, of a request to certify, kind 7.
 pub fn certify_refusal<'a>(
     counts: Counts,
     may_write: Sets<'a>,
@@ -198,7 +199,7 @@ pub fn certify_refusal<'a>(
     let no_right = refused_if(16, !right, held);
     job_event_refusal(
         ranks::contains(active, rank),
-        is_waiting(request, rank),
+        ready_refusal(true, request, sleeping, rank),
         refused_if(15, ranks::contains(unlocked, rank), no_right),
     )
 }
@@ -268,10 +269,11 @@ fn certify_first<'a>(
     )
 }
 
-// 10, 11, 13, 14 and 25, of kind 5, a finish, or kind 6, an abandonment.
+// 10, 11, 13, 14, 25 and 26, of kind 5, a finish, or kind 6, an abandonment.
 pub fn finish_refusal<'a>(
     counts: Counts,
     active: RankSet,
+    sleeping: RankSet,
     writers: Sets<'a>,
     certified: &'a ObjectMarks,
     request: &'a JobRequests,
@@ -280,16 +282,42 @@ pub fn finish_refusal<'a>(
     object: u8,
 ) -> u8
     requires { ⌜ (counts .jobs ≤ mostJobs) × (counts .objects ≤ mostObjects) × (5 ≤ kind) × (kind ≤ 6) ⌝ }
-    ensures { λ r. ⌜ ((u z : ℕ) (ps mr mw rs : List ℕ) →
-        r ≡ R.eventRefusal (stateOf counts ps mr mw active u z rs (now (writers .entry)) (now (certified .entry)) (now (request .entry))) kind rank object) ⌝ }
+    ensures { λ r. ⌜ ((u : ℕ) (ps mr mw rs : List ℕ) →
+        r ≡ R.eventRefusal (stateOf counts ps mr mw active u sleeping rs (now (writers .entry)) (now (certified .entry)) (now (request .entry))) kind rank object) ⌝ }
 {
     if !within(1, counts.jobs, rank) {
         return 10;
     }
     let job = job_event_refusal(
         ranks::contains(active, rank),
-        (kind == 5) & is_waiting(request, rank),
+        ready_refusal(kind == 5, request, sleeping, rank),
         certify_first(counts, writers, certified, kind, rank),
+    );
+    refused_if(11, object != 0, job)
+}
+
+// 10, 11, 13, 14, 26 and 27, of kind 8, a job that falls asleep, or kind 9, one that is awakened.
+pub fn sleep_refusal(
+    counts: Counts,
+    active: RankSet,
+    sleeping: RankSet,
+    request: &JobRequests,
+    kind: u8,
+    rank: u8,
+    object: u8,
+) -> u8
+    requires { ⌜ (counts .jobs ≤ mostJobs) × (8 ≤ kind) × (kind ≤ 9) ⌝ }
+    ensures { λ r. ⌜ ((u : ℕ) (ps mr mw rs ws cs : List ℕ) →
+        r ≡ R.eventRefusal (stateOf counts ps mr mw active u sleeping rs ws cs (now (request .entry))) kind rank object) ⌝ }
+{
+    if !within(1, counts.jobs, rank) {
+        return 10;
+    }
+    let awake = !ranks::contains(sleeping, rank);
+    let job = job_event_refusal(
+        ranks::contains(active, rank),
+        ready_refusal(kind == 8, request, sleeping, rank),
+        refused_if(27, (kind == 9) & awake, 0),
     );
     refused_if(11, object != 0, job)
 }

@@ -21,7 +21,7 @@ use Rattle.state.specs.declared.State.{State}
 use Rattle.state.specs.State.{mostJobs, read, write, mostObjects, markWords, wordOf, placeOf, zeroState, isObject, declaredAny, holds, isActive}
 use Rattle.state.specs.WellFormed.{countsFit, processorFits, processorsFit, declarationFits, declarationsFit, declaredOfJobs, aboveIdle}
 use Rattle.state.specs.WellFormed.{heldByActive, heldByRight, locksFit, lockedOnce, oneLockEach, writtenAlone, writersAlone, waitFits, waitsFit, marksFit, versionFits}
-use Rattle.state.specs.WellFormed.{certifyFits, certifiesFit, wellFormed}
+use Rattle.state.specs.WellFormed.{certifyFits, certifiesFit, waitsAwake, sleepersFit, wellFormed}
 use Rattle.table.specs.declared.TableRead.{TableRead}
 use Rattle.table_bytes.specs.Bytes.{processorsIn, jobsIn, objectsIn, entryCount, tableLength}
 use Rattle.table_bytes.specs.Refusals.{tableRefusal}
@@ -109,10 +109,15 @@ module _ (b : List ℕ) (a : AcceptedTable b) where
   unfolding certifiesFit tableState
   certifies-fit = every-true mostObjects (certifyFits (tableState b)) (λ o l h. simp (at-zeros markWords (wordOf o), member-empty (placeOf o)))
 
+  -- nobody sleeps
+  sleepers-fit : sleepersFit (tableState b) ≡ true
+  unfolding sleepersFit tableState
+  sleepers-fit = every-true mostJobs (waitsAwake (tableState b)) (λ r l h. simp (at-zeros mostJobs r))
+
   pub table-well-formed : wellFormed (tableState b) ≡ true
   unfolding wellFormed
   table-well-formed =
-      simp (counts-fit, processors-fit, declarations-fit, above-idle, locks-fit, one-lock-each, writers-alone, waits-fit, marks-fit, version-fits, certifies-fit)
+      simp (counts-fit, processors-fit, declarations-fit, above-idle, locks-fit, one-lock-each, writers-alone, waits-fit, marks-fit, version-fits, certifies-fit, sleepers-fit)
 
   pub table-fresh : Fresh (tableState b)
   unfolding tableState

@@ -42,6 +42,7 @@ fn fresh_state(
         may_write,
         active: EMPTY,
         unlocked: EMPTY,
+        sleeping: EMPTY,
         readers: [0; 128],
         writers: [0; 128],
         certified: [0; 2],

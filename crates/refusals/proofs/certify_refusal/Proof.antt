@@ -8,20 +8,20 @@ use mathlib.Core.List.{List}
 use native.Mathlib.Omega.{arith}
 use lib.Dec.{eqb}
 use borrow.Author.Tests.{eq-eqb, ne-eqb, not-true, not-false}
-use Rattle.basics.specs.Choice.{_if_else_, between-true}
+use Rattle.basics.specs.Choice.{_if_else_, _orElse_, between-true}
 use Rattle.basics.specs.Arrays.{at}
 use Rattle.ranks.specs.Ranks.{member}
 use Rattle.state.specs.declared.State.{State}
-use Rattle.state.specs.State.{write, stateOf, isRank, isObject, declared, holders, isCertified, isActive, isWaiting}
+use Rattle.state.specs.State.{write, stateOf, isRank, isObject, declared, holders, isCertified, isActive, isWaiting, isSleeping}
 use Rattle.refusals.specs.Refusals.{eventRefusal}
-use Rattle.refusals.specs.Parts.{certifyRefusal, certify-refusal, certify-behind}
+use Rattle.refusals.specs.Parts.{ready-first, certifyRefusal, certify-refusal, certify-behind}
 use borrow.Author.Needs.{needs}
 use Rattle.refusals.proofs.certify_refusal.Statement.{statement}
 use Rattle.refusals.proofs.certify_refusal.Tie as tie
 use Rattle.refusals.proofs.certify_refusal.Reads as reads
 use Rattle.refusals.proofs.certify_refusal.Lts as lts
 use Rattle.ranks.proofs.contains.Reads as contains-reads
-use Rattle.refusals.proofs.is_waiting.Reads as is-waiting-reads
+use Rattle.refusals.proofs.ready_refusal.Reads as ready-refusal-reads
 use Rattle.refusals.proofs.job_event_refusal.Reads as job-event-refusal-reads
 use Rattle.refusals.proofs.refused_if.Reads as refused-if-reads
 use Rattle.refusals.proofs.set_of.Reads as set-of-reads
@@ -31,13 +31,13 @@ use Rattle.state.proofs.is_marked.Reads as is-marked-reads
 -- the state that the parts are of, with any other parts
 abbrev whole : (c : tie.Start) → List ℕ → List ℕ → List ℕ → State
 whole c ps mr rs = let a = c .args in
-    stateOf (a .counts) ps mr (now (a .may-write)) (a .active) (a .unlocked) rs (now (a .writers)) (now (a .certified)) (now (a .request))
+    stateOf (a .counts) ps mr (now (a .may-write)) (a .active) (a .unlocked) (a .sleeping) rs (now (a .writers)) (now (a .certified)) (now (a .request))
 
 -- what the chain comes to for a request to certify
 chain : (c : tie.Start) (ps mr rs : List ℕ) → let a = c .args in let s = whole c ps mr rs in
     eventRefusal s 7 (a .rank) (a .object)
     ≡ (9 if eqb (a .counts .version) 1 else 10 if not (isRank s (a .rank)) else 11 if not (isObject s (a .object)) else 13 if not (isActive s (a .rank)) else
-    14 if isWaiting s (a .rank) else
+    14 if isWaiting s (a .rank) else 26 if isSleeping s (a .rank) else
     certifyRefusal (a .rank) (a .unlocked) (declared s write (a .object)) (holders s write (a .object)) (isCertified s (a .object)))
 chain c ps mr rs = certify-refusal (whole c ps mr rs) (c .args .rank) (c .args .object)
 
@@ -89,8 +89,8 @@ refused-if-requires-3 c κs = search needs
 contains-requires-3 : tie.Need-contains-requires-3
 contains-requires-3 c κs = let b = between-true 1 (c .before .before .before .before .before .before .before .before .before .before .before .before .before .before .args .counts .jobs) (c .before .before .before .before .before .before .before .before .before .before .before .before .before .before .args .rank) (sym (c .before .before .before .before .before .before .before .before .before .before .before .within .ensures) ∙ not-false (c .before .before .before .before .before .before .before .before .before .before .before .within .result) (c .before .before .before .before .before .before .before .before .before .before .if2 .left)) in (b .0, omega (arith, b .1, c .before .before .before .before .before .before .before .before .before .before .before .before .before .before .pre))
 
-is-waiting-requires : tie.Need-is-waiting-requires
-is-waiting-requires c κs = let b = between-true 1 (c .before .before .before .before .before .before .before .before .before .before .before .before .before .before .before .args .counts .jobs) (c .before .before .before .before .before .before .before .before .before .before .before .before .before .before .before .args .rank) (sym (c .before .before .before .before .before .before .before .before .before .before .before .before .within .ensures) ∙ not-false (c .before .before .before .before .before .before .before .before .before .before .before .before .within .result) (c .before .before .before .before .before .before .before .before .before .before .before .if2 .left)) in (b .0, omega (arith, b .1, c .before .before .before .before .before .before .before .before .before .before .before .before .before .before .before .pre))
+ready-refusal-requires : tie.Need-ready-refusal-requires
+ready-refusal-requires c κs = let b = between-true 1 (c .before .before .before .before .before .before .before .before .before .before .before .before .before .before .before .args .counts .jobs) (c .before .before .before .before .before .before .before .before .before .before .before .before .before .before .before .args .rank) (sym (c .before .before .before .before .before .before .before .before .before .before .before .before .within .ensures) ∙ not-false (c .before .before .before .before .before .before .before .before .before .before .before .before .within .result) (c .before .before .before .before .before .before .before .before .before .before .before .if2 .left)) in (b .0, omega (arith, b .1, c .before .before .before .before .before .before .before .before .before .before .before .before .before .before .before .pre))
 
 contains-requires-4 : tie.Need-contains-requires-4
 contains-requires-4 c κs = let b = between-true 1 (c .before .before .before .before .before .before .before .before .before .before .before .before .before .before .before .before .args .counts .jobs) (c .before .before .before .before .before .before .before .before .before .before .before .before .before .before .before .before .args .rank) (sym (c .before .before .before .before .before .before .before .before .before .before .before .before .before .within .ensures) ∙ not-false (c .before .before .before .before .before .before .before .before .before .before .before .before .before .within .result) (c .before .before .before .before .before .before .before .before .before .before .before .before .if2 .left)) in (b .0, omega (arith, b .1, c .before .before .before .before .before .before .before .before .before .before .before .before .before .before .before .before .pre))
@@ -111,8 +111,10 @@ returns-4 c =
     let no-right = c .before .before .before .before .before .refused-if3 .ensures ∙ ap₂ (λ (b : Bool) (n : ℕ). 16 if not b else n) right held in
     let all = c .before .refused-if4 .ensures ∙ ap₂ (λ (b : Bool) (n : ℕ). 15 if b else n) (c .before .before .contains4 .ensures) no-right in
     λ ps mr rs. c .job-event-refusal .ensures
-    ∙ ap₂ (λ (b w : Bool). 13 if not b else 14 if w else c .before .refused-if4 .result) (c .before .before .before .before .contains3 .ensures) (c .before .before .before .is-waiting .ensures)
-    ∙ ap (λ (n : ℕ). 13 if not (member (a .active) (a .rank)) else 14 if not (eqb (at (now (a .request)) (a .rank)) 0) else n) all
+    ∙ ap₂ (λ (b : Bool) (n : ℕ). 13 if not b else (n orElse c .before .refused-if4 .result)) (c .before .before .before .before .contains3 .ensures) (c .before .before .before .ready-refusal .ensures)
+    ∙ ap (λ (n : ℕ). 13 if not (member (a .active) (a .rank)) else n)
+    (ready-first (not (eqb (at (now (a .request)) (a .rank)) 0)) (member (a .sleeping) (a .rank)) (c .before .refused-if4 .result))
+    ∙ ap (λ (n : ℕ). 13 if not (member (a .active) (a .rank)) else 14 if not (eqb (at (now (a .request)) (a .rank)) 0) else 26 if member (a .sleeping) (a .rank) else n) all
     ∙ sym (certify-behind (whole ((c .before .before .before .before .before .before .before .before .before .before .before .before .before .before .before .before .before .before .before)) ps mr rs) (a .rank) (a .object) (ne-eqb (a .counts .version) 1 (c .before .before .before .before .before .before .before .before .before .before .before .before .before .before .before .before .before .if1 .left))
     (sym (c .before .before .before .before .before .before .before .before .before .before .before .before .before .before .before .before .within .ensures) ∙ not-false (c .before .before .before .before .before .before .before .before .before .before .before .before .before .before .before .before .within .result) (c .before .before .before .before .before .before .before .before .before .before .before .before .before .before .before .if2 .left)) (sym (c .before .before .before .before .before .before .before .before .before .before .before .before .before .before .within2 .ensures) ∙ not-false (c .before .before .before .before .before .before .before .before .before .before .before .before .before .before .within2 .result) (c .before .before .before .before .before .before .before .before .before .before .before .before .before .if3 .left)))
 
@@ -134,7 +136,7 @@ certify-refusal-spec =
     contains-requires-2
     refused-if-requires-3
     contains-requires-3
-    is-waiting-requires
+    ready-refusal-requires
     contains-requires-4
     refused-if-requires-4
     job-event-refusal-requires

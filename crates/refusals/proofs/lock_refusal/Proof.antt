@@ -8,13 +8,13 @@ use Prim.Native.Nat.{ℕ, _-_}
 use native.Mathlib.Omega.{arith}
 use lib.Dec.{eqb}
 use borrow.Author.Tests.{not-true, not-false}
-use Rattle.basics.specs.Choice.{_if_else_, between-true}
+use Rattle.basics.specs.Choice.{_if_else_, _orElse_, between-true}
 use Rattle.basics.specs.Arrays.{at}
 use Rattle.ranks.specs.Ranks.{member}
 use Rattle.state.specs.declared.State.{State}
-use Rattle.state.specs.State.{stateOf, read, write, isRank, isObject, isActive, isWaiting, declared, holders}
+use Rattle.state.specs.State.{stateOf, read, write, isRank, isObject, isActive, isWaiting, isSleeping, declared, holders}
 use Rattle.refusals.specs.Refusals.{eventRefusal}
-use Rattle.refusals.specs.Parts.{rightRefusal, request-refusal}
+use Rattle.refusals.specs.Parts.{ready-first, rightRefusal, request-refusal}
 use borrow.Author.Needs.{needs}
 use Rattle.refusals.proofs.lock_refusal.Statement.{statement}
 use Rattle.refusals.proofs.lock_refusal.Tie as tie
@@ -27,7 +27,7 @@ whole c ps cs = let a = c .args in
 -- what the chain comes to for a request
 chain : (c : tie.Start) (ps cs : List ℕ) → let a = c .args in let s = whole c ps cs in
     eventRefusal s (a .kind) (a .rank) (a .object)
-    ≡ (10 if not (isRank s (a .rank)) else 11 if not (isObject s (a .object)) else 13 if not (isActive s (a .rank)) else 14 if isWaiting s (a .rank) else
+    ≡ (10 if not (isRank s (a .rank)) else 11 if not (isObject s (a .object)) else 13 if not (isActive s (a .rank)) else 14 if isWaiting s (a .rank) else 26 if isSleeping s (a .rank) else
     rightRefusal (a .kind - 1) (a .rank) (a .unlocked) (declared s read (a .object)) (declared s write (a .object)) (holders s read (a .object)) (holders s write (a .object)))
 chain c ps cs = let a = c .args in request-refusal (whole c ps cs) (a .kind) (a .rank) (a .object) (c .pre .2) (c .pre .3)
 
@@ -64,8 +64,8 @@ right-refusal-requires c κs = let b = between-true 1 (c .before .before .before
 contains-requires : tie.Need-contains-requires
 contains-requires c κs = omega (arith, between-true 1 (c .before .before .before .before .before .before .before .before .before .args .counts .jobs) (c .before .before .before .before .before .before .before .before .before .args .rank) (sym (c .before .before .before .before .before .before .before .before .within .ensures) ∙ not-false (c .before .before .before .before .before .before .before .before .within .result) (c .before .before .before .before .before .before .before .if1 .left)), c .before .before .before .before .before .before .before .before .before .pre)
 
-is-waiting-requires : tie.Need-is-waiting-requires
-is-waiting-requires c κs = omega (arith, between-true 1 (c .before .before .before .before .before .before .before .before .before .before .args .counts .jobs) (c .before .before .before .before .before .before .before .before .before .before .args .rank) (sym (c .before .before .before .before .before .before .before .before .before .within .ensures) ∙ not-false (c .before .before .before .before .before .before .before .before .before .within .result) (c .before .before .before .before .before .before .before .before .if1 .left)), c .before .before .before .before .before .before .before .before .before .before .pre)
+ready-refusal-requires : tie.Need-ready-refusal-requires
+ready-refusal-requires c κs = omega (arith, between-true 1 (c .before .before .before .before .before .before .before .before .before .before .args .counts .jobs) (c .before .before .before .before .before .before .before .before .before .before .args .rank) (sym (c .before .before .before .before .before .before .before .before .before .within .ensures) ∙ not-false (c .before .before .before .before .before .before .before .before .before .within .result) (c .before .before .before .before .before .before .before .before .if1 .left)), c .before .before .before .before .before .before .before .before .before .before .pre)
 
 job-event-refusal-requires : tie.Need-job-event-refusal-requires
 job-event-refusal-requires c κs = search needs
@@ -74,8 +74,10 @@ returns-3 : tie.Need-returns-3
 returns-3 c =
     let a = c .before .before .before .before .before .before .before .before .before .before .before .before .args in
     λ ps cs. c .job-event-refusal .ensures
-    ∙ ap₂ (λ (b w : Bool). 13 if not b else 14 if w else c .before .before .before .right-refusal .result) (c .before .before .contains .ensures) (c .before .is-waiting .ensures)
-    ∙ ap (λ (n : ℕ). 13 if not (member (a .active) (a .rank)) else 14 if not (eqb (at (now (a .request)) (a .rank)) 0) else n) (c .before .before .before .right-refusal .ensures
+    ∙ ap₂ (λ (b : Bool) (n : ℕ). 13 if not b else (n orElse c .before .before .before .right-refusal .result)) (c .before .before .contains .ensures) (c .before .ready-refusal .ensures)
+    ∙ ap (λ (n : ℕ). 13 if not (member (a .active) (a .rank)) else n)
+    (ready-first (not (eqb (at (now (a .request)) (a .rank)) 0)) (member (a .sleeping) (a .rank)) (c .before .before .before .right-refusal .result))
+    ∙ ap (λ (n : ℕ). 13 if not (member (a .active) (a .rank)) else 14 if not (eqb (at (now (a .request)) (a .rank)) 0) else 26 if member (a .sleeping) (a .rank) else n) (c .before .before .before .right-refusal .ensures
     ∙ (λ i. rightRefusal (a .kind - 1) (a .rank) (a .unlocked) (c .before .before .before .before .before .before .before .set-of .ensures i) (c .before .before .before .before .before .before .set-of2 .ensures i) (c .before .before .before .before .before .set-of3 .ensures i) (c .before .before .before .before .set-of4 .ensures i)))
     ∙ sym (chain ((c .before .before .before .before .before .before .before .before .before .before .before .before)) ps cs ∙ simp (sym (c .before .before .before .before .before .before .before .before .before .before .before .within .ensures) ∙ not-false (c .before .before .before .before .before .before .before .before .before .before .before .within .result) (c .before .before .before .before .before .before .before .before .before .before .if1 .left), sym (c .before .before .before .before .before .before .before .before .before .within2 .ensures) ∙ not-false (c .before .before .before .before .before .before .before .before .before .within2 .result) (c .before .before .before .before .before .before .before .before .if2 .left)))
 
@@ -94,6 +96,6 @@ lock-refusal-spec =
     set-of-requires-4
     right-refusal-requires
     contains-requires
-    is-waiting-requires
+    ready-refusal-requires
     job-event-refusal-requires
     returns-3)

@@ -7,10 +7,11 @@ use Prim.Native.Nat.{ℕ}
 use native.Mathlib.Omega.{arith}
 use lib.Dec.{eqb}
 use borrow.Author.Tests.{not-true, not-false}
-use Rattle.basics.specs.Choice.{_if_else_, between-true}
+use Rattle.basics.specs.Choice.{_if_else_, _orElse_, between-true}
 use Rattle.basics.specs.Arrays.{at}
 use Rattle.ranks.specs.Ranks.{member}
 use Rattle.refusals.specs.Refusals as R
+use Rattle.refusals.specs.Parts.{ready-first}
 use borrow.Author.Needs.{needs}
 use Rattle.refusals.proofs.unlock_refusal.Statement.{statement}
 use Rattle.refusals.proofs.unlock_refusal.Tie as tie
@@ -47,8 +48,8 @@ refused-if-requires c κs = search needs
 contains-requires-3 : tie.Need-contains-requires-3
 contains-requires-3 c κs = omega (arith, between-true 1 (c .before .before .before .before .before .before .before .before .before .args .counts .jobs) (c .before .before .before .before .before .before .before .before .before .args .rank) (sym (c .before .before .before .before .before .before .before .before .within .ensures) ∙ not-false (c .before .before .before .before .before .before .before .before .within .result) (c .before .before .before .before .before .before .before .if1 .left)), (c .before .before .before .before .before .before .before .before .before .pre))
 
-is-waiting-requires : tie.Need-is-waiting-requires
-is-waiting-requires c κs = omega (arith, between-true 1 (c .before .before .before .before .before .before .before .before .before .before .args .counts .jobs) (c .before .before .before .before .before .before .before .before .before .before .args .rank) (sym (c .before .before .before .before .before .before .before .before .before .within .ensures) ∙ not-false (c .before .before .before .before .before .before .before .before .before .within .result) (c .before .before .before .before .before .before .before .before .if1 .left)), (c .before .before .before .before .before .before .before .before .before .before .pre))
+ready-refusal-requires : tie.Need-ready-refusal-requires
+ready-refusal-requires c κs = omega (arith, between-true 1 (c .before .before .before .before .before .before .before .before .before .before .args .counts .jobs) (c .before .before .before .before .before .before .before .before .before .before .args .rank) (sym (c .before .before .before .before .before .before .before .before .before .within .ensures) ∙ not-false (c .before .before .before .before .before .before .before .before .before .within .result) (c .before .before .before .before .before .before .before .before .if1 .left)), (c .before .before .before .before .before .before .before .before .before .before .pre))
 
 refused-if-requires-2 : tie.Need-refused-if-requires-2
 refused-if-requires-2 c κs = search needs
@@ -63,8 +64,10 @@ returns-3 c =
     let read = c .before .before .before .before .before .before .before .contains .ensures ∙ ap (λ (v : ℕ). member v (a .rank)) (c .before .before .before .before .before .before .before .before .set-of .ensures) in
     let written = c .before .before .before .before .before .contains2 .ensures ∙ ap (λ (v : ℕ). member v (a .rank)) (c .before .before .before .before .before .before .set-of2 .ensures) in
     λ u ps mr mw cs. c .job-event-refusal .ensures
-    ∙ ap₂ (λ (b w : Bool). 13 if not b else 14 if w else c .before .refused-if2 .result) (c .before .before .before .contains3 .ensures) (c .before .before .is-waiting .ensures)
-    ∙ ap (λ (n : ℕ). 13 if not (member (a .active) (a .rank)) else 14 if not (eqb (at (now (a .request)) (a .rank)) 0) else n)
+    ∙ ap₂ (λ (b : Bool) (n : ℕ). 13 if not b else (n orElse c .before .refused-if2 .result)) (c .before .before .before .contains3 .ensures) (c .before .before .ready-refusal .ensures)
+    ∙ ap (λ (n : ℕ). 13 if not (member (a .active) (a .rank)) else n)
+    (ready-first (not (eqb (at (now (a .request)) (a .rank)) 0)) (member (a .sleeping) (a .rank)) (c .before .refused-if2 .result))
+    ∙ ap (λ (n : ℕ). 13 if not (member (a .active) (a .rank)) else 14 if not (eqb (at (now (a .request)) (a .rank)) 0) else 26 if member (a .sleeping) (a .rank) else n)
     (c .before .refused-if2 .ensures
     ∙ ap (λ (n : ℕ). 18 if not (c .before .before .before .before .before .before .before .contains .result || c .before .before .before .before .before .contains2 .result) else n) (c .before .before .before .before .refused-if .ensures)
     ∙ ap₂ (λ (x y : Bool). 18 if not (x || y) else 21 if y else 0) read written)
@@ -84,7 +87,7 @@ unlock-refusal-spec =
     contains-requires-2
     refused-if-requires
     contains-requires-3
-    is-waiting-requires
+    ready-refusal-requires
     refused-if-requires-2
     job-event-refusal-requires
     returns-3)
