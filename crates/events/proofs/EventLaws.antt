@@ -19,7 +19,7 @@ use Rattle.rule.specs.Granting.{passesBelow, reason, wakeable}
 use Rattle.events.specs.declared.Answer.the-variants.{Granted, Waits, Done, Refused}
 use Rattle.refusals.specs.Accepting.{RequestsFit}
 use Rattle.refusals.specs.Refusals.{eventRefusal}
-use Rattle.events.specs.Events.{outcome, requestMeeting, request, woken, wake, unlock, finish, accepted, perform}
+use Rattle.events.specs.Events.{outcome, requestMeeting, request, woken, wake, unlock, finish, sleepOrAwaken, accepted, perform}
 
 -- ---- the rule of each kind
 
@@ -45,6 +45,20 @@ module _ (s : State) (k r o : ℕ) where
   accepted-finish a b =
       simp (ne-eqb k 1 (λ e. omega arith), le-leb 2 k (omega arith), lt-leb k 3 (omega arith), ne-eqb k 4 (λ e. omega arith), ne-eqb k 7 (λ e. omega arith), inside-between 5 6 k a b)
 
+  pub accepted-sleep : 8 ≤ k → k ≤ 9 → accepted s k r o ≡ sleepOrAwaken s k r
+  unfolding accepted
+  accepted-sleep a b =
+      simp (
+        ne-eqb k 1 (λ e. omega arith),
+        le-leb 2 k (omega arith),
+        lt-leb k 3 (omega arith),
+        ne-eqb k 4 (λ e. omega arith),
+        ne-eqb k 7 (λ e. omega arith),
+        le-leb 5 k (omega arith),
+        lt-leb k 6 (omega arith),
+        inside-between 8 9 k a b,
+      )
+
   -- ---- refused, or not
 
   pub perform-refused : (n : ℕ) → n ≡ eventRefusal s k r o → n ≢ 0 → outcome (Refused n) s ≡ perform s k r o
@@ -55,7 +69,7 @@ module _ (s : State) (k r o : ℕ) where
   unfolding perform
   perform-accepted e = simp (eq-eqb (eventRefusal s k r o) 0 e)
 
-  pub perform-unknown : between 1 7 k ≡ false → outcome (Refused 9) s ≡ perform s k r o
+  pub perform-unknown : between 1 9 k ≡ false → outcome (Refused 9) s ≡ perform s k r o
   unfolding perform eventRefusal
   perform-unknown e = sym (simp e)
 

@@ -4,7 +4,7 @@ use Prim.Native.Nat.{ℕ}
 use lib.Dec.{eqb}
 use Rattle.basics.specs.Choice.{if_then_else_, between}
 use Rattle.state.specs.declared.State.{State}
-use Rattle.state.specs.State.{requestedMode, requestedObject, activate, await, grant, release, endRun}
+use Rattle.state.specs.State.{requestedMode, requestedObject, activate, await, grant, release, fallAsleep, awaken, endRun}
 use Rattle.weights.specs.Keys.{keyHolder, keyObject, lowestKey}
 use Rattle.rule.specs.Granting.{passesBelow, reason, wakeable}
 use Rattle.events.specs.declared.Outcome.{Outcome}
@@ -45,6 +45,10 @@ unlock s r o = wake (release s r o)
 abbrev pub finish : State → ℕ → Outcome
 finish s r = wake (endRun s r)
 
+-- 02, CR 8: "a sleeping mark, set by event 8 and cleared by event 9 ..; events 8 and 9 answer done, 0": no lock moves and nobody is woken
+abbrev pub sleepOrAwaken : State → ℕ → ℕ → Outcome
+sleepOrAwaken s k r = outcome (Done 0) (if eqb k 8 then fallAsleep s r else awaken s r)
+
 -- "Each kind has its own rule": an event that is not refused. A kind without a rule is refused, by 9.
 unfoldable pub accepted : State → ℕ → ℕ → ℕ → Outcome
 accepted s k r o =
@@ -52,6 +56,7 @@ accepted s k r o =
     if isRequest k then request s (modeOf k) r o else
     if eqb k 4 then unlock s r o else
     if between 5 6 k then finish s r else
+    if between 8 9 k then sleepOrAwaken s k r else
     outcome (Refused 9) s
 
 -- refused by the number n, or, where n is 0, what the rule says: "A refusal returns the state handed in"

@@ -8,9 +8,10 @@ use native.Mathlib.Omega.{arith}
 use borrow.Author.Tests.{ne-eqb, not-false}
 use Rattle.basics.specs.Choice.{if_then_else_, and-left, between-true}
 use Rattle.state.specs.declared.State.{State}
-use Rattle.state.specs.State.{read, write, certify, isActive, requestedMode, requestedObject, await, grant, release, endRun}
+use Rattle.state.specs.State.{read, write, certify, isActive, isSleeping, requestedMode, requestedObject, await, grant, release, endRun}
 use Rattle.state.specs.Facts.{RequestFacts, Facts}
-use Rattle.state.specs.Keeping.{activate-keeps, await-keeps, release-keeps, end-keeps, grant-keeps}
+use Rattle.state.specs.WellFormedFacts.{sleeper-free}
+use Rattle.state.specs.Keeping.{activate-keeps, await-keeps, fall-asleep-keeps, awaken-keeps, release-keeps, end-keeps, grant-keeps}
 use Rattle.rule.specs.Granting.{passes, wakes, wakeable}
 use Rattle.rule.specs.Conflicts.{no-conflict}
 use Rattle.rule.specs.WakeLaws.{FoundAt, Found, wakeable-found, wakes-is}
@@ -81,8 +82,12 @@ accepted-keeps s F (suc (suc (suc (suc (suc zero))))) r o A = woken-keeps (endRu
 accepted-keeps s F (suc (suc (suc (suc (suc (suc zero)))))) r o A = woken-keeps (endRun s r) (end-keeps s F r (A .rank .0) (A .rank .1))
 accepted-keeps s F (suc (suc (suc (suc (suc (suc (suc zero))))))) r o A =
     request-keeps s F r (A .rank .0) (A .rank .1) certify o (certify-facts s (F .version) r o A)
-accepted-keeps s F (suc (suc (suc (suc (suc (suc (suc (suc k)))))))) r o A =
-    absurd (omega (arith, between-true 1 7 (suc (suc (suc (suc (suc (suc (suc (suc k)))))))) (and-left _ _ (A .kind))))
+accepted-keeps s F (suc (suc (suc (suc (suc (suc (suc (suc zero)))))))) r o A =
+    fall-asleep-keeps s F r (A .rank .0) (A .rank .1) (not-false (isActive s r) (A .not-13)) (not-waiting s r (A .not-14))
+accepted-keeps s F (suc (suc (suc (suc (suc (suc (suc (suc (suc zero))))))))) r o A =
+    awaken-keeps s F r (A .rank .0) (A .rank .1) (sleeper-free s F r (not-false (isSleeping s r) (A .not-27)))
+accepted-keeps s F (suc (suc (suc (suc (suc (suc (suc (suc (suc (suc k)))))))))) r o A =
+    absurd (omega (arith, between-true 1 9 (suc (suc (suc (suc (suc (suc (suc (suc (suc (suc k)))))))))) (and-left _ _ (A .kind))))
 
 -- ---- any event
 

@@ -21,6 +21,7 @@ use refusals::certify_refusal;
 use refusals::finish_refusal;
 use refusals::lock_refusal;
 use refusals::set_of;
+use refusals::sleep_refusal;
 use refusals::start_refusal;
 use refusals::unlock_refusal;
 use state::Counts;
@@ -259,7 +260,7 @@ fn unlock<'a>(
     may_write: Sets<'a>,
     active: RankSet,
     unlocked: &mut RankSet,
-    sleeping: &mut RankSet,
+    sleeping: RankSet,
     readers: SetsMut,
     writers: SetsMut,
     certified: &mut ObjectMarks,
@@ -269,10 +270,12 @@ fn unlock<'a>(
 ) -> Answer
     requires { ⌜ InRange counts (now request) ⌝ }
     ensures { λ r. ⌜ ((ps : List ℕ) →
-        E.outcome r (stateOf counts ps (now («may_read» .entry)) (now («may_write» .entry)) active (now (unlocked .exit)) (now (sleeping .exit)) (now (readers .exit)) (now (writers .exit)) (now (certified .exit)) (now (request .exit)))
-        ≡ E.perform (stateOf counts ps (now («may_read» .entry)) (now («may_write» .entry)) active (now (unlocked .entry)) (now (sleeping .entry)) (now (readers .entry)) (now (writers .entry)) (now (certified .entry)) (now (request .entry))) 4 rank object) ⌝ }
+        E.outcome r (stateOf counts ps (now («may_read» .entry)) (now («may_write» .entry)) active (now (unlocked .exit)) sleeping (now (readers .exit)) (now (writers .exit)) (now (certified .exit)) (now (request .exit)))
+        ≡ E.perform (stateOf counts ps (now («may_read» .entry)) (now («may_write» .entry)) active (now (unlocked .entry)) sleeping (now (readers .entry)) (now (writers .entry)) (now (certified .entry)) (now (request .entry))) 4 rank object) ⌝ }
 {
-    let number = unlock_refusal(counts, active, readers, writers, request, rank, object);
+    let number = unlock_refusal(
+        counts, active, sleeping, readers, writers, request, rank, object,
+    );
     if number != 0 {
         return Answer::Refused(number);
     }
@@ -288,7 +291,7 @@ fn unlock<'a>(
     )
 }
 
-// The job's run ends, with its locks and its request.
+// The job's run ends, with its locks, its marks and its request.
 fn end_run<'a>(
     counts: Counts,
     may_read: Sets<'a>,
@@ -309,6 +312,7 @@ fn end_run<'a>(
 {
     *active = ranks::without(*active, rank);
     *unlocked = ranks::without(*unlocked, rank);
+    *sleeping = ranks::without(*sleeping, rank);
     drop_marks(certified, writers, rank);
     release_sets(readers, rank);
     release_sets(writers, rank);
@@ -348,6 +352,7 @@ fn finish<'a>(
     let number = finish_refusal(
         counts,
         *active,
+        *sleeping,
         writers,
         certified,
         request,
@@ -371,6 +376,33 @@ fn finish<'a>(
         request,
         rank,
     )
+}
+
+// Kinds 8 and 9: the job falls asleep, or is awakened. No lock moves, and the waiting jobs are not searched.
+fn sleep_or_awaken(
+    counts: Counts,
+    active: RankSet,
+    sleeping: &mut RankSet,
+    request: &JobRequests,
+    kind: u8,
+    rank: u8,
+    object: u8,
+) -> Answer
+    requires { ⌜ (counts .jobs ≤ mostJobs) × (8 ≤ kind) × (kind ≤ 9) ⌝ }
+    ensures { λ r. ⌜ ((u : ℕ) (ps mr mw rs ws cs : List ℕ) →
+        E.outcome r (stateOf counts ps mr mw active u (now (sleeping .exit)) rs ws cs (now (request .entry)))
+        ≡ E.perform (stateOf counts ps mr mw active u (now (sleeping .entry)) rs ws cs (now (request .entry))) kind rank object) ⌝ }
+{
+    let number = sleep_refusal(counts, active, *sleeping, request, kind, rank, object);
+    if number != 0 {
+        return Answer::Refused(number);
+    }
+    if kind == 8 {
+        *sleeping = ranks::with(*sleeping, rank);
+    } else {
+        *sleeping = ranks::without(*sleeping, rank);
+    }
+    Answer::Done(0)
 }
 
 // An event in a well-formed state: the rule of its kind; 9 where it has none.
@@ -417,7 +449,7 @@ pub fn perform<'a>(
             may_write,
             *active,
             unlocked,
-            sleeping,
+            *sleeping,
             readers,
             writers,
             certified,
@@ -454,6 +486,9 @@ pub fn perform<'a>(
             rank,
             object,
         ),
-        0 | 8..=255 => Answer::Refused(9),
+        8 | 9 => sleep_or_awaken(
+            counts, *active, sleeping, request, kind, rank, object,
+        ),
+        0 | 10..=255 => Answer::Refused(9),
     }
 }

@@ -22,7 +22,7 @@ use Rattle.ranks.specs.UnionLaws.{union-left, union-right, union-either, union-
 use Rattle.state.specs.declared.State.{State}
 use Rattle.state.specs.State.{mostJobs, mostObjects, markWords, read, write, certify, strongest, wordOf, placeOf, isObject, processorOf}
 use Rattle.state.specs.State.{declared, declaredAny, mayLock, holders, holdersAny}
-use Rattle.state.specs.State.{holds, isCertified, sharesWithNone, holdsAlready, isActive, hasUnlocked, isSleeping, isWaiting, requestOf, requestedMode, requestedObject}
+use Rattle.state.specs.State.{holds, isCertified, sharesWithNone, holdsAlready, isActive, hasUnlocked, isSleeping, requestOf, requestedMode, requestedObject}
 use Rattle.state.specs.WellFormed.{processorFits, processorsFit, declarationFits, declarationsFit, ofJobs, declaredOfJobs, aboveIdle}
 use Rattle.state.specs.WellFormed.{heldByActive, heldByRight, locksFit, lockedOnce, oneLockEach, alone, writtenAlone, writersAlone}
 use Rattle.state.specs.WellFormed.{holdsBefore, mayAwait, waitFits, waitsFit, marksFit, certifyFits, certifiesFit, waitsAwake, sleepersFit, wellFormed}
@@ -351,3 +351,7 @@ module _ (s : State) (F : Facts s) where
 
   pub waiting-rank : (r : ℕ) → requestOf s r ≢ 0 → (1 ≤ r) × (r ≤ s .counts .jobs)
   waiting-rank r d = active-rank r (F .requests r d .active)
+
+  -- a sleeper does not wait
+  pub sleeper-free : (r : ℕ) → isSleeping s r ≡ true → requestOf s r ≡ 0
+  sleeper-free r e = elim (ℕ-discrete (requestOf s r) 0) [ yes z ↦ z | no d ↦ absurd (clash e (F .requests r d .awake)) ]

@@ -53,7 +53,7 @@ returns-2 c =
     let a = c .before .before .before .before .before .before .before .before .before .before .args in
     λ ps.
     let s = whole ((c .before .before .before .before .before .before .before .before .before .before)) ps in
-    c .grant-or-wait .ensures (a .active) (a .unlocked) ps
+    c .grant-or-wait .ensures (a .active) (a .unlocked) (a .sleeping) ps
     ∙ sym (L.perform-accepted s 7 (a .rank) (a .object) (sym (c .before .before .before .before .before .before .certify-refusal .ensures ps (now (a .may-read)) (now (a .readers))) ∙ c .before .before .before .before .before .if1 .left)
     ∙ L.accepted-certify s 7 (a .rank) (a .object) refl)
 

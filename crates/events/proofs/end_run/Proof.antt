@@ -16,6 +16,9 @@ without-requires c κs = search needs
 without-requires-2 : tie.Need-without-requires-2
 without-requires-2 c κs = search needs
 
+without-requires-3 : tie.Need-without-requires-3
+without-requires-3 c κs = search needs
+
 drop-marks-requires : tie.Need-drop-marks-requires
 drop-marks-requires c κs = search needs
 
@@ -30,15 +33,15 @@ store-request-requires c κs = search needs
 
 wake-requires : tie.Need-wake-requires
 wake-requires c κs =
-    let a = c .before .before .before .before .before .before .before .before .before .before .before .before .before .before .before .before .before .args in
-    (c .before .before .before .before .before .before .before .before .before .before .before .before .before .before .before .before .before .pre .0, c .before .before .before .before .before .before .before .before .before .before .before .before .before .before .before .before .before .pre .1, subst RequestsFit (sym (c .before .before .before .before .store-request .ensures)) (dropped-fits (now (a .request)) (a .rank) (c .before .before .before .before .before .before .before .before .before .before .before .before .before .before .before .before .before .pre .2) (c .before .before .before .before .before .before .before .before .before .before .before .before .before .before .before .before .before .pre .4)))
+    let a = c .before .before .before .before .before .before .before .before .before .before .before .before .before .before .before .before .before .before .before .args in
+    (c .before .before .before .before .before .before .before .before .before .before .before .before .before .before .before .before .before .before .before .pre .0, c .before .before .before .before .before .before .before .before .before .before .before .before .before .before .before .before .before .before .before .pre .1, subst RequestsFit (sym (c .before .before .before .before .store-request .ensures)) (dropped-fits (now (a .request)) (a .rank) (c .before .before .before .before .before .before .before .before .before .before .before .before .before .before .before .before .before .before .before .pre .2) (c .before .before .before .before .before .before .before .before .before .before .before .before .before .before .before .before .before .before .before .pre .4)))
 
 returns : tie.Need-returns
 unfolding endRun
 returns c =
-    let a = c .before .before .before .before .before .before .before .before .before .before .before .before .before .before .before .before .before .before .args in
-    λ ps. c .wake .ensures (c .before .before .before .before .before .before .before .before .before .before .before .before .before .before .before .before .without .result) (c .before .before .before .before .before .before .before .before .before .before .before .before .before .before .without2 .result) ps
-    ∙ (λ i. E.wake (stateOf (a .counts) ps (now (a .may-read)) (now (a .may-write)) (c .before .before .before .before .before .before .before .before .before .before .before .before .before .before .before .before .without .ensures i) (c .before .before .before .before .before .before .before .before .before .before .before .before .before .before .without2 .ensures i) (c .before .before .before .before .before .before .before .before .before .release-sets .ensures i) (c .before .before .before .before .before .before .before .release-sets2 .ensures i) (c .before .before .before .before .before .before .before .before .before .before .before .drop-marks .ensures i) (c .before .before .before .before .before .store-request .ensures i)))
+    let a = c .before .before .before .before .before .before .before .before .before .before .before .before .before .before .before .before .before .before .before .before .args in
+    λ ps. c .wake .ensures (c .before .before .before .before .before .before .before .before .before .before .before .before .before .before .before .before .before .before .without .result) (c .before .before .before .before .before .before .before .before .before .before .before .before .before .before .before .before .without2 .result) (c .before .before .before .before .before .before .before .before .before .before .before .before .before .before .without3 .result) ps
+    ∙ (λ i. E.wake (stateOf (a .counts) ps (now (a .may-read)) (now (a .may-write)) (c .before .before .before .before .before .before .before .before .before .before .before .before .before .before .before .before .before .before .without .ensures i) (c .before .before .before .before .before .before .before .before .before .before .before .before .before .before .before .before .without2 .ensures i) (c .before .before .before .before .before .before .before .before .before .before .before .before .before .before .without3 .ensures i) (c .before .before .before .before .before .before .before .before .before .release-sets .ensures i) (c .before .before .before .before .before .before .before .release-sets2 .ensures i) (c .before .before .before .before .before .before .before .before .before .before .before .drop-marks .ensures i) (c .before .before .before .before .before .store-request .ensures i)))
 
 pub end-run-spec : {M : Type 1} → statement M
 end-run-spec =
@@ -46,6 +49,7 @@ end-run-spec =
     (tie.spec
     without-requires
     without-requires-2
+    without-requires-3
     drop-marks-requires
     release-sets-requires
     release-sets-requires-2

@@ -44,9 +44,9 @@ unfolding grant
 returns c =
     let b = c .before .before .before .before .before .before .before .before .before .before .before .args in
     let k = c .before .before .before .before .before .before .before .lowest-key .result in
-    λ a u ps.
+    λ a u z ps.
     let s = stateOf (b .counts) ps (now (b .may-read)) (now (b .may-write)) a u z (now (b .readers)) (now (b .writers)) (now (b .certified)) (now (b .request)) in
-    (λ i. outcome Granted (stateOf (b .counts) ps (now (b .may-read)) (now (b .may-write)) a u (c .grant .ensures .0 i) (c .grant .ensures .1 i) (c .grant .ensures .2 i) (c .grant .ensures .3 i)))
+    (λ i. outcome Granted (stateOf (b .counts) ps (now (b .may-read)) (now (b .may-write)) a u z (c .grant .ensures .0 i) (c .grant .ensures .1 i) (c .grant .ensures .2 i) (c .grant .ensures .3 i)))
     ∙ sym (L.granted s (b .mode) (b .rank) (b .object) k (sym (c .before .before .before .before .before .before .passes .ensures) ∙ c .before .before .before .before .before .if1 .taken))
     ∙ ap (requestMeeting s (b .mode) (b .rank) (b .object)) (c .before .before .before .before .before .before .before .lowest-key .ensures ∙ sym (lowest-key-parts s (b .rank)))
 
@@ -90,7 +90,7 @@ returns-2 c =
     let k = c .before .before .before .before .before .before .before .before .before .before .before .before .before .lowest-key .result in
     let h = c .before .before .before .before .before .before .before .before .before .before .key-holder .ensures in
     let o = c .before .before .before .before .before .before .before .before .before .key-object .ensures in
-    λ a u ps.
+    λ a u z ps.
     let s = stateOf (b .counts) ps (now (b .may-read)) (now (b .may-write)) a u z (now (b .readers)) (now (b .writers)) (now (b .certified)) (now (b .request)) in
     let why : c .before .before .reason .result ≡ reason s (b .mode) (b .object) (keyHolder k) (keyObject k) =
     c .before .before .reason .ensures

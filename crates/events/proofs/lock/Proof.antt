@@ -51,7 +51,7 @@ returns-2 c =
     let a = c .before .before .before .before .before .before .before .before .before .before .args in
     λ ps.
     let s = whole ((c .before .before .before .before .before .before .before .before .before .before)) ps in
-    c .grant-or-wait .ensures (a .active) (a .unlocked) ps
+    c .grant-or-wait .ensures (a .active) (a .unlocked) (a .sleeping) ps
     ∙ sym (L.perform-accepted s (a .kind) (a .rank) (a .object) (sym (c .before .before .before .before .before .before .lock-refusal .ensures ps (now (a .certified))) ∙ c .before .before .before .before .before .if1 .left) ∙ L.accepted-lock s (a .kind) (a .rank) (a .object) (c .before .before .before .before .before .before .before .before .before .before .pre .2) (c .before .before .before .before .before .before .before .before .before .before .pre .3))
 
 pub lock-spec : {M : Type 1} → statement M

@@ -1,0 +1,70 @@
+-- `events::sleep_or_awaken` meets its contract: refused, or the rank joins the sleepers or leaves them.
+-- Assumes nothing.
+use denote.Ref.{now}
+use mathlib.Core.Path.{_≡_, sym, ap, _∙_}
+use mathlib.Core.List.{List, []}
+use Prim.Native.Nat.{ℕ, _≤_}
+use native.Mathlib.Omega.{arith}
+use borrow.Author.Tests.{eq-eqb, ne-eqb}
+use Rattle.basics.specs.Choice.{if_then_else_}
+use Rattle.state.specs.declared.State.{State}
+use Rattle.state.specs.State.{mostJobs, stateOf, fallAsleep, awaken}
+use Rattle.refusals.specs.Refusals.{eventRefusal}
+use Rattle.refusals.specs.Accepting.{accepted-numbers}
+use Rattle.events.specs.declared.Answer.the-variants.{Done}
+use Rattle.events.specs.Events.{outcome}
+use Rattle.events.proofs.EventLaws as L
+use borrow.Author.Needs.{needs}
+use Rattle.events.proofs.sleep_or_awaken.Statement.{statement}
+use Rattle.events.proofs.sleep_or_awaken.Tie as tie
+
+-- the state that the parts are of, with any other parts
+abbrev whole : (c : tie.Start) → ℕ → List ℕ → List ℕ → List ℕ → List ℕ → List ℕ → List ℕ → State
+whole c u ps mr mw rs ws cs = let a = c .args in stateOf (a .counts) ps mr mw (a .active) u (now (a .sleeping)) rs ws cs (now (a .request))
+
+-- the rank of an event that is not refused is one that a set can have
+numbers : (c : tie.Start) → eventRefusal (whole c 0 [] [] [] [] [] []) (c .args .kind) (c .args .rank) (c .args .object) ≡ 0
+    → (1 ≤ c .args .rank) × (c .args .rank ≤ mostJobs)
+numbers c e =
+    let n = accepted-numbers (whole c 0 [] [] [] [] [] []) (c .args .kind) (c .args .rank) (c .args .object) e in
+    (n .0, omega (arith, n .1, c .pre))
+
+sleep-refusal-requires : tie.Need-sleep-refusal-requires
+sleep-refusal-requires c κs = search needs
+
+returns : tie.Need-returns
+returns c =
+    let a = c .before .before .before .args in
+    λ u ps mr mw rs ws cs. L.perform-refused (whole ((c .before .before .before)) u ps mr mw rs ws cs) (a .kind) (a .rank) (a .object) (c .before .sleep-refusal .result) (c .before .sleep-refusal .ensures u ps mr mw rs ws cs) (c .if1 .taken)
+
+with-requires : tie.Need-with-requires
+with-requires c κs = numbers ((c .before .before .before .before)) (sym (c .before .before .sleep-refusal .ensures 0 [] [] [] [] [] []) ∙ c .before .if1 .left)
+
+without-requires : tie.Need-without-requires
+without-requires c κs = numbers ((c .before .before .before .before)) (sym (c .before .before .sleep-refusal .ensures 0 [] [] [] [] [] []) ∙ c .before .if1 .left)
+
+returns-2 : tie.Need-returns-2
+unfolding fallAsleep
+returns-2 c =
+    let a = c .before .before .before .before .before .args in
+    λ u ps mr mw rs ws cs.
+    let s = whole ((c .before .before .before .before .before)) u ps mr mw rs ws cs in
+    ap (λ (v : ℕ). outcome (Done 0) (stateOf (a .counts) ps mr mw (a .active) u v rs ws cs (now (a .request)))) (c .with .ensures)
+    ∙ sym (L.perform-accepted s (a .kind) (a .rank) (a .object) (sym (c .before .before .before .sleep-refusal .ensures u ps mr mw rs ws cs) ∙ c .before .before .if1 .left)
+    ∙ L.accepted-sleep s (a .kind) (a .rank) (a .object) (c .before .before .before .before .before .pre .1) (c .before .before .before .before .before .pre .2)
+    ∙ ap (λ b. outcome (Done 0) (if b then fallAsleep s (a .rank) else awaken s (a .rank))) (eq-eqb (a .kind) 8 (c .before .if2 .taken)))
+
+returns-3 : tie.Need-returns-3
+unfolding awaken
+returns-3 c =
+    let a = c .before .before .before .before .before .args in
+    λ u ps mr mw rs ws cs.
+    let s = whole ((c .before .before .before .before .before)) u ps mr mw rs ws cs in
+    ap (λ (v : ℕ). outcome (Done 0) (stateOf (a .counts) ps mr mw (a .active) u v rs ws cs (now (a .request)))) (c .without .ensures)
+    ∙ sym (L.perform-accepted s (a .kind) (a .rank) (a .object) (sym (c .before .before .before .sleep-refusal .ensures u ps mr mw rs ws cs) ∙ c .before .before .if1 .left)
+    ∙ L.accepted-sleep s (a .kind) (a .rank) (a .object) (c .before .before .before .before .before .pre .1) (c .before .before .before .before .before .pre .2)
+    ∙ ap (λ b. outcome (Done 0) (if b then fallAsleep s (a .rank) else awaken s (a .rank))) (ne-eqb (a .kind) 8 (c .before .if2 .left)))
+
+pub sleep-or-awaken-spec : {M : Type 1} → statement M
+sleep-or-awaken-spec =
+    tie.close (tie.spec sleep-refusal-requires returns with-requires without-requires returns-2 returns-3)
