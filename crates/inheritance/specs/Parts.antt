@@ -13,15 +13,15 @@ use Rattle.rule.specs.Granting.{namedKey}
 use Rattle.rule.specs.Parts.{waitsOf}
 use Rattle.inheritance.specs.Running.{inheritedRank, runningRank}
 
--- a state with these counts, declarations, locks and requests, with the jobs' processors and these active jobs
-abbrev pub runState : Counts → List ℕ → ℕ → List ℕ → List ℕ → List ℕ → List ℕ → List ℕ → List ℕ → State
-runState counts processorOf active mayRead mayWrite readers writers certified request =
-    stateOf counts processorOf mayRead mayWrite active 0 readers writers certified request
+-- a state with these counts, declarations, locks and requests, with the jobs' processors, these active jobs and these sleepers
+abbrev pub runState : Counts → List ℕ → ℕ → ℕ → List ℕ → List ℕ → List ℕ → List ℕ → List ℕ → List ℕ → State
+runState counts processorOf active sleeping mayRead mayWrite readers writers certified request =
+    stateOf counts processorOf mayRead mayWrite active 0 sleeping readers writers certified request
 
 -- a state's parts
 abbrev pub runOf : State → State
 runOf s =
-    runState (s .counts) (s .«processor_of») (s .active) (s .«may_read») (s .«may_write») (s .readers) (s .writers) (s .certified) (s .request)
+    runState (s .counts) (s .«processor_of») (s .active) (s .sleeping) (s .«may_read») (s .«may_write») (s .readers) (s .writers) (s .certified) (s .request)
 
 pub inherited-rank-parts : (s : State) (j : ℕ) → inheritedRank s j ≡ inheritedRank (waitsOf s) j
 unfolding lowestKeyBy objectKey othersKey weight namedKey inheritedRank

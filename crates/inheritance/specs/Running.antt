@@ -1,4 +1,4 @@
--- Inherited ranks, and the job that a processor runs (01, "Granting, naming, waking").
+-- Inherited ranks, and the job that a processor runs (01, "Granting, naming, waking"; 02, CR 8).
 -- Assumes nothing.
 use Prim.Native.Nat.{ℕ, _+_, _*_, _%_}
 use mathlib.Core.Bool.{Bool, not, _&&_}
@@ -6,7 +6,7 @@ use lib.Dec.{eqb}
 use Rattle.basics.specs.Choice.{if_then_else_}
 use Rattle.basics.specs.Loops.{least}
 use Rattle.state.specs.declared.State.{State}
-use Rattle.state.specs.State.{processorOf, isActive, isWaiting}
+use Rattle.state.specs.State.{processorOf, isActive, isWaiting, isSleeping}
 use Rattle.weights.specs.Keys.{noKey}
 use Rattle.rule.specs.Granting.{namedHolder}
 
@@ -18,9 +18,13 @@ inheritedFrom s j r = if isWaiting s r && eqb (namedHolder s r) j then r else j
 unfoldable pub inheritedRank : State → ℕ → ℕ
 inheritedRank s j = least (s .counts .jobs) j (inheritedFrom s j)
 
--- r is an active job of processor p that isn't waiting
+-- r is active and not asleep: "A processor passes over a sleeper"
+abbrev pub isAwake : State → ℕ → Bool
+isAwake s r = isActive s r && not (isSleeping s r)
+
+-- r is an active job of processor p that is awake and isn't waiting
 abbrev pub isReady : State → ℕ → ℕ → Bool
-isReady s p r = eqb (processorOf s r) p && isActive s r && not (isWaiting s r)
+isReady s p r = eqb (processorOf s r) p && isAwake s r && not (isWaiting s r)
 
 -- ready jobs are ordered by inherited rank
 abbrev pub readyKey : State → ℕ → ℕ → ℕ

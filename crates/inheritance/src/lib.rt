@@ -123,12 +123,12 @@ pub fn inherited_rank<'a>(
     inherited_by(counts.jobs, &named, rank)
 }
 
-// Whether the rank, with its own processor and request, is an active job of the processor and isn't waiting.
-fn is_ready(own: u8, processor: u8, active: RankSet, request: u16, rank: u8) -> bool
+// Whether the rank, with its own processor and request, is a job of the processor that is awake and isn't waiting.
+fn is_ready(own: u8, processor: u8, awake: RankSet, request: u16, rank: u8) -> bool
     requires { ⌜ (1 ≤ rank) × (rank ≤ mostJobs) ⌝ }
-    ensures { λ r. ⌜ r ≡ I.readyBy own processor active request rank ⌝ }
+    ensures { λ r. ⌜ r ≡ I.readyBy own processor awake request rank ⌝ }
 {
-    (own == processor) & ranks::contains(active, rank) & (request == 0)
+    (own == processor) & ranks::contains(awake, rank) & (request == 0)
 }
 
 // The key that orders ready jobs by inherited rank; no lock's key for a job that isn't ready.
@@ -143,34 +143,35 @@ fn ready_key<'a>(jobs: u8, named: &'a JobLocks, ready: bool, rank: u8) -> u64
     }
 }
 
-// The ready rank of the processor with the most urgent inherited rank, by the lock that each rank names; 0 where none is ready.
+// The ready rank of the processor with the most urgent inherited rank, by the ranks that are awake and the lock that each rank names; 0 where none is ready.
 pub fn running_by<'a>(
     jobs: u8,
     named: &'a JobLocks,
     processor_of: &'a JobProcessors,
-    active: RankSet,
+    awake: RankSet,
     request: &'a JobRequests,
     processor: u8,
 ) -> u8
     requires { ⌜ jobs ≤ mostJobs ⌝ }
-    ensures { λ r. ⌜ r ≡ I.runningBy jobs (now (named .entry)) (now («processor_of» .entry)) active (now (request .entry)) processor ⌝ }
+    ensures { λ r. ⌜ r ≡ I.runningBy jobs (now (named .entry)) (now («processor_of» .entry)) awake (now (request .entry)) processor ⌝ }
 {
     let mut lowest = NO_KEY;
     let mut rank: u8 = 0;
     while rank < jobs {
         let i = rank as usize;
         rank += 1;
-        let ready = is_ready(processor_of[i], processor, active, request[i], rank);
+        let ready = is_ready(processor_of[i], processor, awake, request[i], rank);
         lowest = lower(lowest, ready_key(jobs, named, ready, rank));
     }
     (lowest % 256) as u8
 }
 
-// The active rank of the processor that isn't waiting and has the most urgent inherited rank; 0 where the processor is idle.
+// The active rank of the processor that neither waits nor sleeps and has the most urgent inherited rank; 0 where the processor is idle.
 pub fn running_rank<'a>(
     counts: Counts,
     processor_of: &'a JobProcessors,
     active: RankSet,
+    sleeping: RankSet,
     may_read: Sets<'a>,
     may_write: Sets<'a>,
     readers: Sets<'a>,
@@ -180,7 +181,7 @@ pub fn running_rank<'a>(
     processor: u8,
 ) -> u8
     requires { ⌜ (counts .jobs ≤ mostJobs) × (counts .objects ≤ mostObjects) ⌝ }
-    ensures { λ r. ⌜ r ≡ R.runningRank (runState counts (now («processor_of» .entry)) active (now («may_read» .entry)) (now («may_write» .entry)) (now (readers .entry)) (now (writers .entry)) (now (certified .entry)) (now (request .entry))) processor ⌝ }
+    ensures { λ r. ⌜ r ≡ R.runningRank (runState counts (now («processor_of» .entry)) active sleeping (now («may_read» .entry)) (now («may_write» .entry)) (now (readers .entry)) (now (writers .entry)) (now (certified .entry)) (now (request .entry))) processor ⌝ }
 {
     let named = named_locks(
         counts,
@@ -195,7 +196,7 @@ pub fn running_rank<'a>(
         counts.jobs,
         &named,
         processor_of,
-        active,
+        ranks::minus(active, sleeping),
         request,
         processor,
     )

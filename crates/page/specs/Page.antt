@@ -1,4 +1,4 @@
--- The state page: its lines, its refusals, what the page writer answers and leaves in the lent buffer (02, CR 2: the sentences in quotes).
+-- The state page: its lines, its refusals, what the page writer answers and leaves in the lent buffer (02, CR 2 and CR 8: the sentences in quotes).
 -- Assumes nothing.
 use Prim.Native.Nat.{ℕ}
 use mathlib.Core.Bool.{Bool, not}
@@ -9,7 +9,7 @@ use Rattle.basics.specs.Choice.{if_then_else_, _if_else_}
 use Rattle.basics.specs.Loops.{joined}
 use Rattle.basics.specs.Replies.{Reply, refused, told}
 use Rattle.state.specs.declared.State.{State}
-use Rattle.state.specs.State.{processorOf, isActive, isWaiting}
+use Rattle.state.specs.State.{processorOf, isActive, isWaiting, isSleeping}
 use Rattle.state.specs.WellFormed.{wellFormed}
 use Rattle.rule.specs.Granting.{namedHolder, namedObject}
 use Rattle.inheritance.specs.Running.{inheritedRank, runningRank}
@@ -19,12 +19,13 @@ use Rattle.decimals.specs.Laid.{atFront}
 
 -- ---- fields
 
--- "state letter in 1 (R runs, W waits, I is ready)"; "R goes to the rank its question gives": of rank r, whose processor runs the rank `runs`
-abbrev pub letterOf : (runs : ℕ) (waits : Bool) (r : ℕ) → ℕ
-letterOf runs waits r = if eqb runs r then 82 else if waits then 87 else 73
+-- "state letter in 1 (R runs, W waits, I is ready)"; "R goes to the rank its question gives"; CR 8: "On the page of CR 2 a sleeper has the letter Z.":
+-- of rank r, whose processor runs the rank `runs`
+abbrev pub letterOf : (runs : ℕ) (waits sleeps : Bool) (r : ℕ) → ℕ
+letterOf runs waits sleeps r = if eqb runs r then 82 else if waits then 87 else if sleeps then 90 else 73
 
 abbrev pub stateLetter : State → ℕ → ℕ
-stateLetter s r = letterOf (runningRank s (processorOf s r)) (isWaiting s r) r
+stateLetter s r = letterOf (runningRank s (processorOf s r)) (isWaiting s r) (isSleeping s r) r
 
 -- "The last two are blank for a job that names nobody.": the holder or the object of the named lock, blank where the holder is 0
 abbrev pub namedField : (holder number : ℕ) → List ℕ

@@ -1,5 +1,5 @@
--- What stands on the page of a well-formed state, said of the questions' own answers (02, CR 2: the sentences in quotes). First the terms, then the theorems
--- `line-shown`, `waiting-letter` and `one-runs`.
+-- What stands on the page of a well-formed state, said of the questions' own answers (02, CR 2 and CR 8: the sentences in quotes). First the terms, then the
+-- theorems `line-shown`, `waiting-letter`, `sleeping-letter` and `one-runs`.
 -- Assumes nothing.
 use mathlib.Core.Path.{_≡_, refl, sym, subst, ap, ap₂, _∙_}
 use mathlib.Core.Bool.{Bool, true, false, _&&_}
@@ -9,16 +9,16 @@ use native.Mathlib.Nat.{add-zero}
 use native.Mathlib.Omega.{arith}
 use lib.Dec.{eqb}
 use lib.ListN.{getD}
-use borrow.Author.Tests.{ne-eqb, lt-ltb}
+use borrow.Author.Tests.{eq-eqb, ne-eqb, lt-ltb}
 use Rattle.basics.specs.Choice.{if_then_else_, inside-between}
 use Rattle.basics.specs.Loops.{joined, sum, oneIf, sum-same}
 use Rattle.basics.specs.JoinedLaws.{joined-split}
 use Rattle.basics.specs.Replies.{told}
 use Rattle.state.specs.declared.State.{State}
-use Rattle.state.specs.State.{mostJobs, processorOf, isActive, isWaiting}
+use Rattle.state.specs.State.{mostJobs, processorOf, isActive, isWaiting, isSleeping, requestOf}
 use Rattle.state.specs.WellFormed.{wellFormed}
 use Rattle.state.specs.Facts.{Sized, Facts}
-use Rattle.state.specs.WellFormedFacts.{facts, active-rank}
+use Rattle.state.specs.WellFormedFacts.{facts, active-rank, sleeper-free}
 use Rattle.refusals.specs.Refusals.{jobRefusal, processorRefusal}
 use Rattle.rule.specs.Granting.{namedHolder, namedObject}
 use Rattle.inheritance.specs.Running.{inheritedRank, runningRank}
@@ -30,7 +30,7 @@ use Rattle.decimals.specs.Fields.{rightAligned}
 use Rattle.page.specs.Page.{letterOf, stateLetter, namedField, pageLine, page}
 use Rattle.page.specs.LineLaws.{column, column-front, column-behind, rank-column, processor-column, letter-column, inherited-column, holder-column, object-column}
 use Rattle.page.specs.PageLaws.{fields-fit, lines-length, state-line-length}
-use Rattle.page.specs.LetterLaws.{letter-W, letter-R, never-zero, once}
+use Rattle.page.specs.LetterLaws.{letter-W, letter-Z, letter-R, never-zero, once}
 
 -- ---- the terms
 
@@ -54,7 +54,7 @@ pub record Shown (s : State) (r : ℕ) (text : List ℕ) : Type 0 where
   -- "rank in 3, processor in 2, state letter in 1"; "The processor is the table's, R goes to the rank its question gives"
   pub rank : column text 0 3 ≡ rightAligned 3 (decimal r)
   pub processor : column text 4 2 ≡ rightAligned 2 (decimal (processorOf s r))
-  pub letter : column text 7 1 ≡ letterOf runs (isWaiting s r) r ∷ []
+  pub letter : column text 7 1 ≡ letterOf runs (isWaiting s r) (isSleeping s r) r ∷ []
   -- "the last three fields equal what the single questions answer", blank where the job names nobody
   pub inherited-rank : column text 9 3 ≡ rightAligned 3 (decimal inherited)
   pub named-rank : column text 13 3 ≡ rightAligned 3 (namedField holder holder)
@@ -129,6 +129,10 @@ module _ (s : State) (sized : Sized s) (well : wellFormed s ≡ true) (r : ℕ) 
   -- "W waits": also where the job names nobody
   pub waiting-letter : isWaiting s r ≡ true → letterOnPage s r ≡ 87
   waiting-letter w = letter-on-page ∙ letter-W s (F .counts .jobs .1) r (in-table .0) w
+
+  -- CR 8: "a sleeper has the letter Z"
+  pub sleeping-letter : isSleeping s r ≡ true → letterOnPage s r ≡ 90
+  sleeping-letter z = letter-on-page ∙ letter-Z s (F .counts .jobs .1) r (in-table .0) (simp (eq-eqb (requestOf s r) 0 (sleeper-free s F r z))) z
 
 -- ---- the letters on the page
 

@@ -99,6 +99,7 @@ pub fn write_page<'a>(
         may_read,
         may_write,
         active,
+        sleeping,
         readers,
         writers,
         certified,
@@ -115,14 +116,15 @@ fn lay_page<'a>(
     may_read: Sets<'a>,
     may_write: Sets<'a>,
     active: RankSet,
+    sleeping: RankSet,
     readers: Sets<'a>,
     writers: Sets<'a>,
     certified: &'a ObjectMarks,
     request: &'a JobRequests,
 )
     requires { ⌜ Within counts × ProcessorsFit counts (now «processor_of»)
-        × (length (P.page (runState counts (now «processor_of») active (now «may_read») (now «may_write») (now readers) (now writers) (now certified) (now request))) ≤ length (now buf)) ⌝ }
-    ensures { λ _. ⌜ now (buf .exit) ≡ atFront (P.page (runState counts (now («processor_of» .entry)) active (now («may_read» .entry)) (now («may_write» .entry))
+        × (length (P.page (runState counts (now «processor_of») active sleeping (now «may_read») (now «may_write») (now readers) (now writers) (now certified) (now request))) ≤ length (now buf)) ⌝ }
+    ensures { λ _. ⌜ now (buf .exit) ≡ atFront (P.page (runState counts (now («processor_of» .entry)) active sleeping (now («may_read» .entry)) (now («may_write» .entry))
         (now (readers .entry)) (now (writers .entry)) (now (certified .entry)) (now (request .entry)))) (now (buf .entry)) ⌝ }
 {
     let named = named_locks(
@@ -134,6 +136,16 @@ fn lay_page<'a>(
         certified,
         request,
     );
-    let running = running_ranks(counts, &named, processor_of, active, request);
-    lay_lines(buf, counts, &named, &running, processor_of, active, request);
+    let awake = ranks::minus(active, sleeping);
+    let running = running_ranks(counts, &named, processor_of, awake, request);
+    lay_lines(
+        buf,
+        counts,
+        &named,
+        &running,
+        processor_of,
+        active,
+        sleeping,
+        request,
+    );
 }

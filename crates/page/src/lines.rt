@@ -31,36 +31,38 @@ use state::JobRequests;
 // A rank for each processor.
 pub type ProcessorRanks = [u8; 8];
 
-// For each processor the rank that it runs, by the lock that each rank names; 0 where it is idle.
+// For each processor the rank that it runs, by the ranks that are awake and the lock that each rank names; 0 where it is idle.
 pub fn running_ranks<'a>(
     counts: Counts,
     named: &'a JobLocks,
     processor_of: &'a JobProcessors,
-    active: RankSet,
+    awake: RankSet,
     request: &'a JobRequests,
 ) -> ProcessorRanks
     requires { ⌜ (counts .jobs ≤ mostJobs) × (counts .processors ≤ mostProcessors) ⌝ }
-    ensures { λ r. ⌜ RunsBy r counts (now (named .entry)) (now («processor_of» .entry)) active (now (request .entry)) ⌝ }
+    ensures { λ r. ⌜ RunsBy r counts (now (named .entry)) (now («processor_of» .entry)) awake (now (request .entry)) ⌝ }
 {
     let processors = counts.processors;
     let mut running: ProcessorRanks = [0; 8];
     let mut processor: u8 = 0;
     while processor < processors {
         let i = processor as usize;
-        running[i] = running_by(counts.jobs, named, processor_of, active, request, processor);
+        running[i] = running_by(counts.jobs, named, processor_of, awake, request, processor);
         processor += 1;
     }
     running
 }
 
-// The letter of a rank with this request, whose processor runs the rank `runs`: R runs, W waits, I is ready.
-fn state_letter(runs: u8, request: u16, rank: u8) -> u8
-    ensures { λ r. ⌜ r ≡ letterOf runs (not (eqb request 0)) rank ⌝ }
+// The letter of a rank with this request, whose processor runs the rank `runs`: R runs, W waits, Z sleeps, I is ready.
+fn state_letter(runs: u8, request: u16, sleeps: bool, rank: u8) -> u8
+    ensures { λ r. ⌜ r ≡ letterOf runs (not (eqb request 0)) sleeps rank ⌝ }
 {
     if runs == rank {
         b'R'
     } else if request != 0 {
         b'W'
+    } else if sleeps {
+        b'Z'
     } else {
         b'I'
     }
@@ -116,15 +118,21 @@ fn lay_rank<'a>(
     named: &'a JobLocks,
     running: &'a ProcessorRanks,
     processor_of: &'a JobProcessors,
+    sleeping: RankSet,
     request: &'a JobRequests,
     rank: u8,
 )
     requires { ⌜ (length (now line) ≡ 21) × (1 ≤ rank) × (rank ≤ mostJobs) × (jobs ≤ mostJobs) × (at (now «processor_of») rank < mostProcessors) ⌝ }
-    ensures { λ _. ⌜ now (line .exit) ≡ lineBy jobs (now (named .entry)) (now (running .entry)) (now («processor_of» .entry)) (now (request .entry)) rank ⌝ }
+    ensures { λ _. ⌜ now (line .exit) ≡ lineBy jobs (now (named .entry)) (now (running .entry)) (now («processor_of» .entry)) sleeping (now (request .entry)) rank ⌝ }
 {
     let i = (rank - 1) as usize;
     let processor = processor_of[i];
-    let letter = state_letter(running[processor as usize], request[i], rank);
+    let letter = state_letter(
+        running[processor as usize],
+        request[i],
+        contains(sleeping, rank),
+        rank,
+    );
     let inherited = inherited_by(jobs, named, rank);
     let lock = named[i];
     let holder = lock_holder(lock);
@@ -140,11 +148,12 @@ pub fn lay_lines<'a>(
     running: &'a ProcessorRanks,
     processor_of: &'a JobProcessors,
     active: RankSet,
+    sleeping: RankSet,
     request: &'a JobRequests,
 )
     requires { ⌜ Within counts × ProcessorsFit counts (now «processor_of»)
-        × (length (linesBy (counts .jobs) (counts .jobs) (now named) (now running) (now «processor_of») active (now request)) ≤ length (now buf)) ⌝ }
-    ensures { λ _. ⌜ now (buf .exit) ≡ atFront (linesBy (counts .jobs) (counts .jobs) (now (named .entry)) (now (running .entry)) (now («processor_of» .entry)) active
+        × (length (linesBy (counts .jobs) (counts .jobs) (now named) (now running) (now «processor_of») active sleeping (now request)) ≤ length (now buf)) ⌝ }
+    ensures { λ _. ⌜ now (buf .exit) ≡ atFront (linesBy (counts .jobs) (counts .jobs) (now (named .entry)) (now (running .entry)) (now («processor_of» .entry)) active sleeping
         (now (request .entry))) (now (buf .entry)) ⌝ }
 {
     let jobs = counts.jobs;
@@ -163,6 +172,7 @@ pub fn lay_lines<'a>(
             named,
             running,
             processor_of,
+            sleeping,
             request,
             rank,
         );

@@ -196,6 +196,7 @@ pub fn ask_running<'a>(
         counts,
         processor_of,
         active,
+        sleeping,
         may_read,
         may_write,
         readers,

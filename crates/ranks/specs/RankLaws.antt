@@ -3,7 +3,7 @@
 -- Assumes nothing.
 use mathlib.Core.Path.{_≡_, refl, sym, ap, _∙_}
 use mathlib.Core.Logic.{_⊎_, inl, inr}
-use mathlib.Core.Bool.{true, false}
+use mathlib.Core.Bool.{Bool, true, false, not, _&&_}
 use Prim.Native.Nat.{ℕ, zero, suc, _+_, _^_, _≤_, _<_, zero-le}
 use native.Mathlib.Nat.{zero-lt-suc, lt-of-not-le, le-antisymm, le-trans, eq-zero-or-pos}
 use native.Mathlib.Numerals.{add-one}
@@ -15,7 +15,7 @@ use lib.Bits.{bitAnd, bitOr, bitXor, differ, and-le-l, or-lt, xor-lt, xor-self}
 use lib.Count.{ones, trailingZeros, trailing-le, trailing-of-zero}
 use borrow.Author.Tests.{eqb-true, eqb-false, eq-eqb, ne-eqb, leb-true, le-leb}
 use Rattle.basics.specs.Choice.{clash}
-use Rattle.ranks.specs.Ranks.{bit, member, with, without, first, subset, disjoint, atMostOne}
+use Rattle.ranks.specs.Ranks.{bit, member, with, without, first, minus, subset, disjoint, atMostOne}
 use Rattle.ranks.specs.Bits.{bit-lt, zero-bit, high-bit, and-bit, or-bit, xor-bit, single-same, single-other, same-bits}
 use Rattle.ranks.specs.Bits.{trailing-below, trailing-set, trailing-lt, ones-one, one-ones}
 
@@ -99,6 +99,31 @@ member-without-other set (suc i) (suc j) d =
     let none : bit (bitAnd set (2 ^ i)) j ≡ 0 = omega (arith, and-bit set (2 ^ i) j, single-other i j (λ e. d (ap suc e))) in
     same-bit (bitXor set (bitAnd set (2 ^ i))) set j
     (xor-bit set (bitAnd set (2 ^ i)) j ∙ ap (differ (bit set j)) none ∙ differ-zero (bit set j))
+
+-- a rank of one set that is not of the other
+pub member-minus : (a b r : ℕ) → member (minus a b) r ≡ member a r && not (member b r)
+member-minus a b zero = member-zero (minus a b) ∙ ap (λ (t : Bool). t && not (member b 0)) (sym (member-zero a))
+member-minus a b (suc i) = go (member b (suc i)) refl
+  where
+    go : (t : Bool) → member b (suc i) ≡ t → member (minus a b) (suc i) ≡ member a (suc i) && not t
+    go true e =
+        let same : bit (bitAnd a b) i ≡ bit a i = omega (arith, and-bit a b i, member-bit b i e, bit-lt a i) in
+        no-bit (minus a b) i (xor-bit a (bitAnd a b) i ∙ ap (differ (bit a i)) same ∙ differ-self (bit a i)) ∙ never (member a (suc i))
+      where
+        never : (t : Bool) → false ≡ t && false
+        never true = refl
+        never false = refl
+    go false e =
+        let unset : bit b i ≡ 0 = omega (arith, bit-lt b i, clear) in
+        let none : bit (bitAnd a b) i ≡ 0 = omega (arith, and-bit a b i, unset) in
+        same-bit (minus a b) a i (xor-bit a (bitAnd a b) i ∙ ap (differ (bit a i)) none ∙ differ-zero (bit a i)) ∙ always (member a (suc i))
+      where
+        clear : bit b i ≡ 1 → ⊥
+        clear q = clash (bit-member b i q) e
+
+        always : (t : Bool) → t ≡ t && true
+        always true = refl
+        always false = refl
 
 pub with-lt : (k set r : ℕ) → set < 2 ^ k → r ≤ k → with set r < 2 ^ k
 unfolding with

@@ -15,12 +15,12 @@ use Rattle.inheritance.proofs.running_by.Statement.{statement}
 use Rattle.inheritance.proofs.running_by.Tie as tie
 
 abbrev Inv-loop : tie.InvT-loop
-Inv-loop jobs named processor-of active request processor lowest₀ rank₀ lowest rank =
+Inv-loop jobs named processor-of awake request processor lowest₀ rank₀ lowest rank =
     (rank ≤ jobs)
-    × (lowest ≡ least rank noKey (λ r. readyKeyBy jobs named (readyBy (at processor-of r) processor active (at request r) r) r))
+    × (lowest ≡ least rank noKey (λ r. readyKeyBy jobs named (readyBy (at processor-of r) processor awake (at request r) r) r))
 
 abbrev μ-loop : tie.MeasureT-loop
-μ-loop jobs named processor-of active request processor lowest₀ rank₀ lowest rank = jobs - rank
+μ-loop jobs named processor-of awake request processor lowest₀ rank₀ lowest rank = jobs - rank
 
 loop-holds : tie.Need-loop-holds Inv-loop μ-loop
 unfolding least
@@ -57,15 +57,15 @@ loop-again : tie.Need-loop-again Inv-loop μ-loop
 loop-again c =
     let a = c .before .before .before .before .before .before .before .args in
     let rank = c .before .before .before .before .before .before .loop .rank in
-    let ready : c .before .before .is-ready .result ≡ readyBy (at (now (a .processor-of)) (rank + 1)) (a .processor) (a .active) (at (now (a .request)) (rank + 1)) (rank + 1) =
+    let ready : c .before .before .is-ready .result ≡ readyBy (at (now (a .processor-of)) (rank + 1)) (a .processor) (a .awake) (at (now (a .request)) (rank + 1)) (rank + 1) =
     c .before .before .is-ready .ensures
-    ∙ ap₂ (λ (own request : ℕ). readyBy own (a .processor) (a .active) request (rank + 1))
+    ∙ ap₂ (λ (own request : ℕ). readyBy own (a .processor) (a .awake) request (rank + 1))
     (sym (at-next (now (a .processor-of)) rank)) (sym (at-next (now (a .request)) rank))
     in (
       search needs,
       c .lower .ensures
           ∙ ap₂ min (c .before .before .before .before .before .before .loop .inv .1) (c .before .ready-key .ensures ∙ ap (λ (b : Bool). readyKeyBy (a .jobs) (now (a .named)) b (rank + 1)) ready)
-          ∙ sym (least-more rank noKey (λ r. readyKeyBy (a .jobs) (now (a .named)) (readyBy (at (now (a .processor-of)) r) (a .processor) (a .active) (at (now (a .request)) r) r) r)),
+          ∙ sym (least-more rank noKey (λ r. readyKeyBy (a .jobs) (now (a .named)) (readyBy (at (now (a .processor-of)) r) (a .processor) (a .awake) (at (now (a .request)) r) r) r)),
     )
 
 cast-result : tie.Need-cast-result Inv-loop μ-loop
@@ -76,7 +76,7 @@ unfolding runningBy
 returns c =
     let a = c .before .before .args in
     let all : c .before .loop .rank ≡ a .jobs = omega arith in
-    ap (λ (n : ℕ). n % 256) (c .before .loop .inv .1 ∙ ap (λ (n : ℕ). least n noKey (λ r. readyKeyBy (a .jobs) (now (a .named)) (readyBy (at (now (a .processor-of)) r) (a .processor) (a .active) (at (now (a .request)) r) r) r)) all)
+    ap (λ (n : ℕ). n % 256) (c .before .loop .inv .1 ∙ ap (λ (n : ℕ). least n noKey (λ r. readyKeyBy (a .jobs) (now (a .named)) (readyBy (at (now (a .processor-of)) r) (a .processor) (a .awake) (at (now (a .request)) r) r) r)) all)
 
 pub running-by-spec : {M : Type 1} → statement M
 running-by-spec =
