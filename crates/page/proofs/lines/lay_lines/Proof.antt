@@ -20,12 +20,12 @@ use Rattle.page.proofs.lines.lay_lines.Statement.{statement}
 use Rattle.page.proofs.lines.lay_lines.Tie as tie
 
 abbrev Inv-loop : tie.InvT-loop
-Inv-loop buf₀ named running processor-of active request jobs end₀ rank₀ buf end rank =
-    (rank ≤ jobs) × (length buf ≡ length buf₀) × (end ≡ length (linesBy rank jobs named running processor-of active request))
-    × (buf ≡ atFront (linesBy rank jobs named running processor-of active request) buf₀)
+Inv-loop buf₀ named running processor-of active sleeping request jobs end₀ rank₀ buf end rank =
+    (rank ≤ jobs) × (length buf ≡ length buf₀) × (end ≡ length (linesBy rank jobs named running processor-of active sleeping request))
+    × (buf ≡ atFront (linesBy rank jobs named running processor-of active sleeping request) buf₀)
 
 abbrev μ-loop : tie.MeasureT-loop
-μ-loop buf₀ named running processor-of active request jobs end₀ rank₀ buf end rank = jobs - rank
+μ-loop buf₀ named running processor-of active sleeping request jobs end₀ rank₀ buf end rank = jobs - rank
 
 loop-holds : tie.Need-loop-holds Inv-loop μ-loop
 unfolding linesBy joined
@@ -45,7 +45,7 @@ loop-again c =
     let a = c .before .before .before .before .before .args in
     let rank = c .before .before .before .loop .rank in
     let same =
-    lines-same (a .counts .jobs) (now (a .named)) (now (a .running)) (now (a .processor-of)) (a .active) (now (a .request)) rank
+    lines-same (a .counts .jobs) (now (a .named)) (now (a .running)) (now (a .processor-of)) (a .active) (a .sleeping) (now (a .request)) rank
     (sym (c .before .contains .ensures) ∙ not-true _ (c .if1 .taken)) in (
       search needs,
       c .before .before .before .loop .inv .1,
@@ -68,13 +68,13 @@ module _ (c : tie.Else1 Inv-loop μ-loop) where
   processor-small : at (now (start .args .processor-of)) (rank + 1) < mostProcessors
   processor-small = let within = start .pre .0 in omega (arith, start .pre .1 (rank + 1) (omega arith) (omega arith))
 
-  long : length (lineBy (start .args .counts .jobs) (now (start .args .named)) (now (start .args .running)) (now (start .args .processor-of)) (now (start .args .request)) (rank + 1)) ≡ 21
-  long = line-by-length _ _ _ _ (start .args .active) _ (rank + 1) (let within = start .pre .0 in omega arith) processor-small
+  long : length (lineBy (start .args .counts .jobs) (now (start .args .named)) (now (start .args .running)) (now (start .args .processor-of)) (start .args .sleeping) (now (start .args .request)) (rank + 1)) ≡ 21
+  long = line-by-length _ _ _ _ (start .args .active) _ _ (rank + 1) (let within = start .pre .0 in omega arith) processor-small
 
   room : c .before .before .before .loop .end + 21 ≤ length (now (start .args .buf))
   room =
       let within = start .pre .0 in
-      omega (arith, c .before .before .before .loop .inv .2, room-for-line _ _ _ _ _ _ rank (length (now (start .args .buf))) (omega arith) (omega arith) processor-small is-active (start .pre .2))
+      omega (arith, c .before .before .before .loop .inv .2, room-for-line _ _ _ _ _ _ _ rank (length (now (start .args .buf))) (omega arith) (omega arith) processor-small is-active (start .pre .2))
 
 add-end : tie.Need-add-end Inv-loop μ-loop
 add-end c = omega (arith, room c)
@@ -101,10 +101,10 @@ loop-again-2 c =
     let a = c .before .before .before .before .before .before .before .before .before .args in
     let rank = c .before .before .before .before .before .before .before .loop .rank in
     let end = c .before .before .before .before .before .before .before .loop .end in
-    let text = linesBy rank (a .counts .jobs) (now (a .named)) (now (a .running)) (now (a .processor-of)) (a .active) (now (a .request)) in
-    let line = lineBy (a .counts .jobs) (now (a .named)) (now (a .running)) (now (a .processor-of)) (now (a .request)) (rank + 1) in
+    let text = linesBy rank (a .counts .jobs) (now (a .named)) (now (a .running)) (now (a .processor-of)) (a .active) (a .sleeping) (now (a .request)) in
+    let line = lineBy (a .counts .jobs) (now (a .named)) (now (a .running)) (now (a .processor-of)) (a .sleeping) (now (a .request)) (rank + 1) in
     let active = c .before .before .before .before in
-    let more = lines-more (a .counts .jobs) (now (a .named)) (now (a .running)) (now (a .processor-of)) (a .active) (now (a .request)) rank (is-active active) in
+    let more = lines-more (a .counts .jobs) (now (a .named)) (now (a .running)) (now (a .processor-of)) (a .active) (a .sleeping) (now (a .request)) rank (is-active active) in
     let both : length text + 21 ≡ length (text ++ line) = omega (arith, length-append text line, long active) in
     let back : end + 21 - end ≡ 21 = omega arith in
     let laid = (λ i. take end (c .before .before .before .before .before .before .before .loop .inv .3 i) ++ (c .before .before .lay-rank .ensures i ++ drop (back i) (drop end (c .before .before .before .before .before .before .before .loop .inv .3 i))))
@@ -123,7 +123,7 @@ returns c =
     let a = c .before .before .before .args in
     let all : c .before .loop .rank ≡ a .counts .jobs = omega arith in
     c .before .loop .inv .3
-    ∙ ap (λ (n : ℕ). atFront (linesBy n (a .counts .jobs) (now (a .named)) (now (a .running)) (now (a .processor-of)) (a .active) (now (a .request))) (now (a .buf))) all
+    ∙ ap (λ (n : ℕ). atFront (linesBy n (a .counts .jobs) (now (a .named)) (now (a .running)) (now (a .processor-of)) (a .active) (a .sleeping) (now (a .request))) (now (a .buf))) all
 
 pub lay-lines-spec : {M : Type 1} → statement M
 lay-lines-spec =

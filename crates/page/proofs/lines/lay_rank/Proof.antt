@@ -32,16 +32,19 @@ element-copy-out-processor : tie.Need-element-copy-out-processor
 element-copy-out-processor c = search needs
 
 cast-state-letter : tie.Need-cast-state-letter
-cast-state-letter c = record { fits = omega (arith, processor-small ((c .before .before))) }
+cast-state-letter c = record { fits = omega (arith, processor-small (((c .before .before)))) }
 
 element-copy-out-state-letter : tie.Need-element-copy-out-state-letter
-element-copy-out-state-letter c = omega (arith, processor-small ((c .before .before)))
+element-copy-out-state-letter c = omega (arith, processor-small (((c .before .before))))
 
 mul-state-letter : tie.Need-mul-state-letter
 mul-state-letter c = search needs
 
 element-copy-out-state-letter-2 : tie.Need-element-copy-out-state-letter-2
 element-copy-out-state-letter-2 c = search needs
+
+contains-requires : tie.Need-contains-requires
+contains-requires c κs = search needs
 
 state-letter-requires : tie.Need-state-letter-requires
 state-letter-requires c κs = search needs
@@ -62,7 +65,7 @@ lock-object-requires : tie.Need-lock-object-requires
 lock-object-requires c κs = search needs
 
 lay-line-requires : tie.Need-lay-line-requires
-lay-line-requires c κs = ((c .before .before .before .before .before .before .before .before .before .before) .pre .0, omega (arith, processor-small ((c .before .before .before .before .before .before .before .before .before .before))))
+lay-line-requires c κs = (((c .before .before .before .before .before .before .before .before .before .before .before)) .pre .0, omega (arith, processor-small (((c .before .before .before .before .before .before .before .before .before .before .before)))))
 
 same-length : tie.Need-same-length
 same-length c = search needs
@@ -70,12 +73,12 @@ same-length c = search needs
 returns : tie.Need-returns
 unfolding lineBy
 returns c =
-    let a = c .before .before .before .before .before .before .before .before .before .before .before .before .before .args in
-    let low = c .before .before .before .before .before .before .before .before .before .before .before .before .before .pre .1 in
+    let a = c .before .before .before .before .before .before .before .before .before .before .before .before .before .before .args in
+    let low = c .before .before .before .before .before .before .before .before .before .before .before .before .before .before .pre .1 in
     let processor = sym (at-index (now (a .processor-of)) (a .rank) low) in
     let request = sym (at-index (now (a .request)) (a .rank) low) in
     let lock = sym (at-index (now (a .named)) (a .rank) low) in
-    let letter = c .before .before .before .before .before .before .before .before .state-letter .ensures ∙ (λ i. letterOf (getD (now (a .running)) (processor i) 0) (not (eqb (request i) 0)) (a .rank)) in
+    let letter = c .before .before .before .before .before .before .before .before .state-letter .ensures ∙ (λ i. letterOf (getD (now (a .running)) (processor i) 0) (not (eqb (request i) 0)) (c .before .before .before .before .before .before .before .before .before .contains .ensures i) (a .rank)) in
     let holder = c .before .before .before .before .before .lock-holder .ensures ∙ ap keyHolder lock in
     let object = c .before .before .before .before .lock-object .ensures ∙ ap keyObject lock in
     c .before .before .lay-line .ensures ∙ (λ i. lineOf (a .rank) (processor i) (letter i) (c .before .before .before .before .before .before .before .inherited-by .ensures i) (holder i) (object i))
@@ -91,6 +94,7 @@ lay-rank-spec =
     element-copy-out-state-letter
     mul-state-letter
     element-copy-out-state-letter-2
+    contains-requires
     state-letter-requires
     inherited-by-requires
     mul-lock

@@ -14,12 +14,12 @@ use Rattle.page.proofs.lines.running_ranks.Statement.{statement}
 use Rattle.page.proofs.lines.running_ranks.Tie as tie
 
 abbrev Inv-loop : tie.InvT-loop
-Inv-loop counts named processor-of active request processors running₀ processor₀ running processor =
+Inv-loop counts named processor-of awake request processors running₀ processor₀ running processor =
     (processor ≤ processors) × (length running ≡ mostProcessors)
-    × FilledTo running processor (λ k. runningBy (counts .jobs) named processor-of active request (k - 1))
+    × FilledTo running processor (λ k. runningBy (counts .jobs) named processor-of awake request (k - 1))
 
 abbrev μ-loop : tie.MeasureT-loop
-μ-loop counts named processor-of active request processors running₀ processor₀ running processor =
+μ-loop counts named processor-of awake request processors running₀ processor₀ running processor =
     processors - processor
 
 loop-holds : tie.Need-loop-holds Inv-loop μ-loop
@@ -44,7 +44,7 @@ loop-again : tie.Need-loop-again Inv-loop μ-loop
 loop-again c =
     let a = c .before .before .before .args in
     let l = c .before .before .loop in
-    let runs = runningBy (a .counts .jobs) (now (a .named)) (now (a .processor-of)) (a .active) (now (a .request)) in
+    let runs = runningBy (a .counts .jobs) (now (a .named)) (now (a .processor-of)) (a .awake) (now (a .request)) in
     let back : l .processor ≡ l .processor + 1 - 1 = omega arith in (
       search needs,
       search needs,
@@ -56,7 +56,7 @@ returns c =
     let a = c .before .before .args in
     let l = c .before .loop in
     let all : l .processor ≡ a .counts .processors = omega arith in
-    subst (λ (n : ℕ). FilledTo (l .running) n (λ k. runningBy (a .counts .jobs) (now (a .named)) (now (a .processor-of)) (a .active) (now (a .request)) (k - 1))) all (l .inv .2)
+    subst (λ (n : ℕ). FilledTo (l .running) n (λ k. runningBy (a .counts .jobs) (now (a .named)) (now (a .processor-of)) (a .awake) (now (a .request)) (k - 1))) all (l .inv .2)
 
 pub running-ranks-spec : {M : Type 1} → statement M
 running-ranks-spec =

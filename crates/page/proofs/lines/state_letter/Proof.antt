@@ -1,4 +1,4 @@
--- `page::lines::state_letter` meets its contract: its three ways are those of the definition.
+-- `page::lines::state_letter` meets its contract: its four ways are those of the definition.
 -- Assumes nothing.
 use borrow.Author.Tests.{eq-eqb, ne-eqb}
 use Rattle.page.proofs.lines.state_letter.Statement.{statement}
@@ -11,7 +11,10 @@ returns-2 : tie.Need-returns-2
 returns-2 c = simp (ne-eqb _ _ (c .before .if1 .left), ne-eqb _ _ (c .if2 .taken))
 
 returns-3 : tie.Need-returns-3
-returns-3 c = simp (ne-eqb _ _ (c .before .if1 .left), eq-eqb _ _ (c .if2 .left))
+returns-3 c = simp (ne-eqb _ _ (c .before .before .if1 .left), eq-eqb _ _ (c .before .if2 .left), c .if3 .taken)
+
+returns-4 : tie.Need-returns-4
+returns-4 c = simp (ne-eqb _ _ (c .before .before .if1 .left), eq-eqb _ _ (c .before .if2 .left), c .if3 .left)
 
 pub state-letter-spec : {M : Type 1} → statement M
-state-letter-spec = tie.close (tie.spec returns returns-2 returns-3)
+state-letter-spec = tie.close (tie.spec returns returns-2 returns-3 returns-4)
