@@ -21,7 +21,7 @@ returns c =
     sym (step-8 (whole ((c .before))) (a .kind) (a .rank) (a .object) (sym (c .before .pre) ∙ not-true (a .well) (c .if1 .taken)))
 
 act-tested-requires : tie.Need-act-tested-requires
-act-tested-requires c κs = sym (c .before .before .before .before .before .before .before .pre) ∙ not-false (c .before .before .before .before .before .before .before .args .well) (c .before .before .before .before .before .before .if1 .left)
+act-tested-requires c κs = sym (c .before .before .before .before .before .before .before .before .pre) ∙ not-false (c .before .before .before .before .before .before .before .before .args .well) (c .before .before .before .before .before .before .before .if1 .left)
 
 returns-2 : tie.Need-returns-2
 returns-2 c = c .act-tested .ensures

@@ -16,12 +16,12 @@ whole c = let a = c .args in
     (now (a .active)) (now (a .unlocked)) (now (a .sleeping)) (now (a .readers)) (now (a .writers)) (now (a .certified)) (now (a .request))
 
 perform-requires : tie.Need-perform-requires
-perform-requires c κs = in-range (whole ((c .before .before .before .before .before .before))) (c .before .before .before .before .before .before .pre)
+perform-requires c κs = in-range (whole ((c .before .before .before .before .before .before .before))) (c .before .before .before .before .before .before .before .pre)
 
 returns : tie.Need-returns
 returns c =
-    let a = c .before .before .before .before .before .before .before .args in
-    c .perform .ensures (now (a .processor-of)) ∙ sym (step-performs (whole ((c .before .before .before .before .before .before .before))) (a .kind) (a .rank) (a .object) (c .before .before .before .before .before .before .before .pre))
+    let a = c .before .before .before .before .before .before .before .before .args in
+    c .perform .ensures (now (a .processor-of)) ∙ sym (step-performs (whole ((c .before .before .before .before .before .before .before .before))) (a .kind) (a .rank) (a .object) (c .before .before .before .before .before .before .before .before .pre))
 
 pub act-tested-spec : {M : Type 1} → statement M
 act-tested-spec = tie.close (tie.spec perform-requires returns)
