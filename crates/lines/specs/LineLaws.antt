@@ -15,11 +15,11 @@ use Rattle.lines.specs.Lines.{kindLetter, LineLaid}
 
 -- ---- letters
 
-pub other-kind : (version kind : ℕ) → 8 ≤ kind → kindLetter version kind ≡ 63
-other-kind version kind h = go (leb kind 7) refl
+pub other-kind : (version kind : ℕ) → 10 ≤ kind → kindLetter version kind ≡ 63
+other-kind version kind h = go (leb kind 9) refl
   where
-    go : (t : Bool) → leb kind 7 ≡ t → kindLetter version kind ≡ 63
-    go true e = absurd (omega (arith, leb-true kind 7 e))
+    go : (t : Bool) → leb kind 9 ≡ t → kindLetter version kind ≡ 63
+    go true e = absurd (omega (arith, leb-true kind 9 e))
     go false e = let one = le-leb 1 kind (omega arith) in simp (one, e)
 
 -- event 7 has its letter where there are certify locks

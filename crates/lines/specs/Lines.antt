@@ -16,9 +16,10 @@ use Rattle.events.specs.Answers.{Paper, paper}
 
 -- ---- letters
 
--- "kind letter (S R W U F A, `?` for others)"; 02, CR 6: of event 7 "the bench letter is C, on version 1 still `?`"
+-- "kind letter (S R W U F A, `?` for others)"; 02, CR 6: of event 7 "the bench letter is C, on version 1 still `?`";
+-- CR 8: of events 8 and 9 "with bench letters Z and V"
 abbrev pub kindLetter : (version kind : ℕ) → ℕ
-kindLetter version k = if isKind version k then at (83 ∷ 82 ∷ 87 ∷ 85 ∷ 70 ∷ 65 ∷ 67 ∷ []) k else 63
+kindLetter version k = if isKind version k then at (83 ∷ 82 ∷ 87 ∷ 85 ∷ 70 ∷ 65 ∷ 67 ∷ 90 ∷ 86 ∷ []) k else 63
 
 -- "then G, W holder object reason, D woken, or X refusal": G W D X by the answer's number among the four
 abbrev pub answerLetter : ℕ → ℕ

@@ -40,7 +40,9 @@ pub fn kind_letter(version: u8, kind: u8) -> u8
         5 => b'F',
         6 => b'A',
         7 => b'C',
-        0 | 8..=255 => b'?',
+        8 => b'Z',
+        9 => b'V',
+        0 | 10..=255 => b'?',
     }
 }
 

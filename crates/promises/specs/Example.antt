@@ -11,7 +11,7 @@ use Rattle.ranks.specs.Ranks.{member, with, without, first}
 use Rattle.state.specs.declared.State.{State}
 use Rattle.state.specs.State.{mark, keptIn, dropMarks, activate, await, grant, release, endRun}
 use Rattle.state.specs.WellFormed.{processorsFit, declarationsFit, aboveIdle, locksFit, oneLockEach}
-use Rattle.state.specs.WellFormed.{writersAlone, waitsFit, marksFit, certifiesFit, wellFormed}
+use Rattle.state.specs.WellFormed.{writersAlone, waitsFit, marksFit, certifiesFit, sleepersFit, wellFormed}
 use Rattle.table_bytes.specs.Refusals.{headerRefusal, lengthRefusal, processorByteRefusal, entryRefusal, entriesRefusal, tableRefusal}
 use Rattle.table.specs.Example.{example}
 use Rattle.table.specs.Reading.{processorsOf, withRight, declaredIn, tableState, readTable}
@@ -82,7 +82,7 @@ pub example-answers : (readTable example .refusal ≡ 0) × (replay (readTable e
 unfolding exampleLines replay
     every least firstNonzero mapped member with without first trailingZeros ones
     mark keptIn dropMarks activate await grant release endRun
-    processorsFit declarationsFit aboveIdle locksFit oneLockEach writersAlone waitsFit marksFit certifiesFit wellFormed
+    processorsFit declarationsFit aboveIdle locksFit oneLockEach writersAlone waitsFit marksFit certifiesFit sleepersFit wellFormed
     headerRefusal lengthRefusal processorByteRefusal entryRefusal entriesRefusal tableRefusal
     processorsOf withRight declaredIn tableState readTable
     weight othersKey objectKey lowestKeyBy namedKey reason wakeable R.inheritedRank runningRank
@@ -92,7 +92,7 @@ example-answers = (refl, refl)
 -- "where four jobs give 5 for an object that nobody writes" (02, CR 4): object 2 of the same table
 pub example-ceilings : askCeilings (readTable example .state) 2 ≡ Ceilings 5 2
 unfolding every firstNonzero member with first trailingZeros ones
-    processorsFit declarationsFit aboveIdle locksFit oneLockEach writersAlone waitsFit marksFit certifiesFit wellFormed
+    processorsFit declarationsFit aboveIdle locksFit oneLockEach writersAlone waitsFit marksFit certifiesFit sleepersFit wellFormed
     headerRefusal lengthRefusal processorByteRefusal entryRefusal entriesRefusal tableRefusal
     processorsOf withRight declaredIn tableState readTable
     objectRefusal askCeilings
@@ -128,7 +128,7 @@ pub versions-answers : (readTable versionsTable .refusal ≡ 0) × (replay (read
 unfolding versionsLines replay
     every least firstNonzero mapped member with without first trailingZeros ones
     mark keptIn dropMarks activate await grant release endRun
-    processorsFit declarationsFit aboveIdle locksFit oneLockEach writersAlone waitsFit marksFit certifiesFit wellFormed
+    processorsFit declarationsFit aboveIdle locksFit oneLockEach writersAlone waitsFit marksFit certifiesFit sleepersFit wellFormed
     headerRefusal lengthRefusal processorByteRefusal entryRefusal entriesRefusal tableRefusal
     processorsOf withRight declaredIn tableState readTable
     weight othersKey objectKey lowestKeyBy namedKey reason wakeable R.inheritedRank

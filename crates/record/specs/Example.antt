@@ -9,7 +9,7 @@ use Rattle.basics.specs.Arrays.{mapped}
 use Rattle.ranks.specs.Ranks.{member, with, without, first}
 use Rattle.state.specs.State.{activate, await, grant, release, keptIn, dropMarks, endRun}
 use Rattle.state.specs.WellFormed.{processorsFit, declarationsFit, aboveIdle, locksFit, oneLockEach}
-use Rattle.state.specs.WellFormed.{writersAlone, waitsFit, marksFit, certifiesFit, wellFormed}
+use Rattle.state.specs.WellFormed.{writersAlone, waitsFit, marksFit, certifiesFit, sleepersFit, wellFormed}
 use Rattle.table_bytes.specs.Refusals.{headerRefusal, lengthRefusal, processorByteRefusal, entryRefusal, entriesRefusal, tableRefusal}
 use Rattle.table.specs.Example.{example}
 use Rattle.table.specs.Reading.{processorsOf, withRight, declaredIn, tableState, readTable}
@@ -63,7 +63,7 @@ pub example-record : recordOf (example ++ exampleEvents) ≡ exampleRecord
 unfolding recordOf eventLines decimalWithin decimal headerLine eventLine endLine shortLine refusedLine
     every least firstNonzero mapped member with without first trailingZeros ones
     activate await grant release endRun
-    processorsFit declarationsFit aboveIdle locksFit oneLockEach writersAlone waitsFit marksFit certifiesFit wellFormed keptIn dropMarks allCertified
+    processorsFit declarationsFit aboveIdle locksFit oneLockEach writersAlone waitsFit marksFit certifiesFit sleepersFit wellFormed keptIn dropMarks allCertified
     headerRefusal lengthRefusal processorByteRefusal entryRefusal entriesRefusal tableRefusal
     processorsOf withRight declaredIn tableState readTable
     weight othersKey objectKey lowestKeyBy namedKey reason wakeable

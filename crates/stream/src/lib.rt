@@ -139,6 +139,7 @@ pub fn unread() -> Bench
         may_write: [0; 128],
         active: ranks::EMPTY,
         unlocked: ranks::EMPTY,
+        sleeping: ranks::EMPTY,
         readers: [0; 128],
         writers: [0; 128],
         certified: [0; 2],

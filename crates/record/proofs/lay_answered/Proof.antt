@@ -20,7 +20,7 @@ same-length c = search needs
 
 returns : tie.Need-returns
 returns c =
-    let a = c .before .before .before .before .before .before .before .before .before .before .before .before .args in
+    let a = c .before .before .before .before .before .before .before .before .before .before .before .before .before .args in
     let answered = c .before .before .before .before .act-known .ensures in (
       ap (λ (o : Outcome). o .state) answered,
       laid-is (c .before .before .lay-event .ensures)

@@ -46,11 +46,11 @@ shared-slice-read-lay-answered-3 : tie.Need-shared-slice-read-lay-answered-3 Inv
 shared-slice-read-lay-answered-3 c = search needs
 
 lay-answered-requires : tie.Need-lay-answered-requires Inv-loop μ-loop
-lay-answered-requires c κs = (c .before .before .before .before .before .before .before .before .before .before .before .loop .inv .tested .found, omega (arith, c .before .before .before .before .before .before .before .before .before .before .before .loop .inv .laid .within, c .before .before .before .before .before .before .before .before .before .before .before .loop .inv .inside, c .before .before .before .before .before .before .before .before .before .before .before .loop .inv .size, c .before .before .before .before .before .before .before .before .before .before .before .before .before .before .pre .1))
+lay-answered-requires c κs = (c .before .before .before .before .before .before .before .before .before .before .before .before .loop .inv .tested .found, omega (arith, c .before .before .before .before .before .before .before .before .before .before .before .before .loop .inv .laid .within, c .before .before .before .before .before .before .before .before .before .before .before .before .loop .inv .inside, c .before .before .before .before .before .before .before .before .before .before .before .before .loop .inv .size, c .before .before .before .before .before .before .before .before .before .before .before .before .before .before .before .pre .1))
 
 add-at : tie.Need-add-at Inv-loop μ-loop
 add-at c =
-    let inside = c .before .before .before .before .before .before .before .before .before .before .before .before .before .before .before .before .before .good .1 .1 .1 .1 .1 .1 .1 .1 .1 .1 .1 .1 .1 .0 .0 in
+    let inside = c .before .before .before .before .before .before .before .before .before .before .before .before .before .before .before .before .before .before .good .1 .1 .1 .1 .1 .1 .1 .1 .1 .1 .1 .1 .1 .1 .0 .0 in
     omega (arith, inside)
 
 loop-less : tie.Need-loop-less Inv-loop μ-loop
@@ -59,7 +59,7 @@ loop-less c = search needs
 loop-again : tie.Need-loop-again Inv-loop μ-loop
 loop-again c =
     let answered = c .before .before .lay-answered .ensures in
-    run-turn _ _ _ _ _ _ _ _ _ _ (c .before .before .before .before .before .before .before .before .before .before .before .before .before .before .loop .inv) (omega arith) _ _ _ (answered .0) (answered .1)
+    run-turn _ _ _ _ _ _ _ _ _ _ (c .before .before .before .before .before .before .before .before .before .before .before .before .before .before .before .loop .inv) (omega arith) _ _ _ (answered .0) (answered .1)
 
 same-length : tie.Need-same-length Inv-loop μ-loop
 same-length c = search needs

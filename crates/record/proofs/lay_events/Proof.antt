@@ -12,7 +12,7 @@ fits-sized-requires : tie.Need-fits-sized-requires
 fits-sized-requires c κs = search needs
 
 lay-each-requires : tie.Need-lay-each-requires
-lay-each-requires c κs = (record { sized = c .before .before .before .before .before .before .before .fits-sized .ensures .1; found = c .before .before .before .before .before .before .before .fits-sized .ensures .0 }, c .before .before .before .before .before .before .before .before .before .before .before .before .before .before .before .before .pre .0, c .before .before .before .before .before .before .before .before .before .before .before .before .before .before .before .before .pre .1)
+lay-each-requires c κs = (record { sized = c .before .before .before .before .before .before .before .before .fits-sized .ensures .1; found = c .before .before .before .before .before .before .before .before .fits-sized .ensures .0 }, c .before .before .before .before .before .before .before .before .before .before .before .before .before .before .before .before .before .before .pre .0, c .before .before .before .before .before .before .before .before .before .before .before .before .before .before .before .before .before .before .pre .1)
 
 same-length : tie.Need-same-length
 same-length c = search needs
