@@ -17,26 +17,26 @@ mul-used c = search needs
 
 slice-aggregate-lay-events : tie.Need-slice-aggregate-lay-events
 slice-aggregate-lay-events c =
-    let a = c .before .before .before .before .before .before .before .before .before .before .before .before .before .before .before .before .before .before .before .before .args in
-    sym (length-take-le (3 * a .count) (now (a .bytes)) (c .before .before .before .before .before .before .before .before .before .before .before .before .before .before .before .before .before .before .before .before .pre .0))
+    let a = c .before .before .before .before .before .before .before .before .before .before .before .before .before .before .before .before .before .before .before .before .before .args in
+    sym (length-take-le (3 * a .count) (now (a .bytes)) (c .before .before .before .before .before .before .before .before .before .before .before .before .before .before .before .before .before .before .before .before .before .pre .0))
 
 lay-events-requires : tie.Need-lay-events-requires
 lay-events-requires c κs =
-    let a = c .before .before .before .before .before .before .before .before .before .before .before .before .before .before .before .before .before .before .before .before .args in
-    let p = c .before .before .before .before .before .before .before .before .before .before .before .before .before .before .before .before .before .before .before .before .pre in
+    let a = c .before .before .before .before .before .before .before .before .before .before .before .before .before .before .before .before .before .before .before .before .before .args in
+    let p = c .before .before .before .before .before .before .before .before .before .before .before .before .before .before .before .before .before .before .before .before .before .pre in
     let size : length (take (3 * a .count) (now (a .bytes))) ≡ 3 * a .count = length-take-le (3 * a .count) (now (a .bytes)) (p .0) in
     (omega (arith, p .1), omega (arith, p .0, p .2))
 
-add-t34 : tie.Need-add-t34
-add-t34 c = search needs
+add-t36 : tie.Need-add-t36
+add-t36 c = record { fits = omega (arith, c .before .before .before .before .before .before .before .before .before .before .before .before .before .before .before .before .before .before .before .before .before .before .before .before .before .pre .2) }
 
 same-length : tie.Need-same-length
 same-length c = search needs
 
 returns : tie.Need-returns
 returns c =
-    let a = c .before .before .before .before .before .before .before .before .before .before .before .before .before .before .before .before .before .before .before .before .before .before .before .before .args in
-    let p = c .before .before .before .before .before .before .before .before .before .before .before .before .before .before .before .before .before .before .before .before .before .before .before .before .pre in
+    let a = c .before .before .before .before .before .before .before .before .before .before .before .before .before .before .before .before .before .before .before .before .before .before .before .before .before .args in
+    let p = c .before .before .before .before .before .before .before .before .before .before .before .before .before .before .before .before .before .before .before .before .before .before .before .before .before .pre in
     let size : length (take (3 * a .count) (now (a .bytes))) ≡ 3 * a .count = length-take-le (3 * a .count) (now (a .bytes)) (p .0) in
     let answered = c .before .before .before .lay-events .ensures in
     record {
@@ -48,4 +48,4 @@ returns c =
 pub answer-spec : {M : Type 1} → statement M
 answer-spec =
     tie.close
-    (tie.spec mul-used slice-aggregate-lay-events lay-events-requires add-t34 same-length returns)
+    (tie.spec mul-used slice-aggregate-lay-events lay-events-requires add-t36 same-length returns)
