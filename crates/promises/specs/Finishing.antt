@@ -11,7 +11,7 @@ use Rattle.basics.specs.Choice.{if_then_else_, clash, between}
 use Rattle.basics.specs.Loops.{every-at}
 use Rattle.state.specs.declared.Counts.{Counts}
 use Rattle.state.specs.declared.State.{State}
-use Rattle.state.specs.State.{read, write, holds, isCertified, sharesWithNone, activate, await, grant, release, endRun}
+use Rattle.state.specs.State.{read, write, holds, isCertified, sharesWithNone, activate, await, grant, release, fallAsleep, awaken, endRun}
 use Rattle.state.specs.Facts.{Facts}
 use Rattle.state.specs.WellFormedFacts.{held-object}
 use Rattle.weights.specs.Keys.{lowestKey}
@@ -40,13 +40,14 @@ unfolding requestMeeting grant await
 request-counts s m r o k = either-way (λ (x : Outcome). x .state .counts) (passesBelow r k) refl refl
 
 accepted-counts : (s : State) (k r o : ℕ) → accepted s k r o .state .counts ≡ s .counts
-unfolding accepted wake activate release endRun
+unfolding accepted wake activate release endRun fallAsleep awaken
 accepted-counts s k r o =
     let counts : Outcome → Counts = λ x. x .state .counts in
     either-way counts (eqb k 1) refl
     (either-way counts (isRequest k) (request-counts s (modeOf k) r o (lowestKey s r))
     (either-way counts (eqb k 4) (woken-counts (release s r o) (wakeable (release s r o)))
-    (either-way counts (between 5 6 k) (woken-counts (endRun s r) (wakeable (endRun s r))) refl)))
+    (either-way counts (between 5 6 k) (woken-counts (endRun s r) (wakeable (endRun s r)))
+    (either-way counts (between 8 9 k) (either-way (λ (t : State). t .counts) (eqb k 8) refl refl) refl))))
 
 pub step-counts : (s : State) (k r o : ℕ) → step s k r o .state .counts ≡ s .counts
 unfolding step
@@ -69,14 +70,14 @@ not-25-modes s F second r all o = go (holds s write r o) refl (isCertified s o) 
 
 -- an event whose label is that of a finish is of kind 5
 finish-kind : (k : ℕ) (p : Paper) → happened k p ≡ 5 → k ≡ 5
-finish-kind k p = go (isGranted p) (isWaits p) (isDone p) (isRequest k)
+finish-kind k p = go (isGranted p) (isWaits p) (isDone p) (eqb k 1 || between 4 6 k)
   where
-    go : (granted waits done request : Bool) → (if granted then 2 else if waits then 3 else if done then (if request then 0 else k) else 0) ≡ 5 → k ≡ 5
-    go true waits done request e = absurd (omega arith)
-    go false true done request e = absurd (omega arith)
-    go false false true true e = absurd (omega arith)
-    go false false true false e = e
-    go false false false request e = absurd (omega arith)
+    go : (granted waits done moves : Bool) → (if granted then 2 else if waits then 3 else if done then (if moves then k else 0) else 0) ≡ 5 → k ≡ 5
+    go true waits done moves e = absurd (omega arith)
+    go false true done moves e = absurd (omega arith)
+    go false false true false e = absurd (omega arith)
+    go false false true true e = e
+    go false false false moves e = absurd (omega arith)
 
 pub finish-modes : (s : State) → Facts s → s .counts .version ≡ 2 → (k r o : ℕ) → happened k (paper (step s k r o .answer)) ≡ 5
     → (p : ℕ) → heldMode s r p ≢ write

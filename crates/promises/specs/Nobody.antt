@@ -222,8 +222,10 @@ accepted-same s F (suc (suc (suc (suc zero)))) r o A = wake-same (release s r o)
 accepted-same s F (suc (suc (suc (suc (suc zero))))) r o A = wake-same (endRun s r) (end-keeps s F r (A .rank .0) (A .rank .1))
 accepted-same s F (suc (suc (suc (suc (suc (suc zero)))))) r o A = wake-same (endRun s r) (end-keeps s F r (A .rank .0) (A .rank .1))
 accepted-same s F (suc (suc (suc (suc (suc (suc (suc zero))))))) r o A = request-same s F _ r o (A .rank .1)
-accepted-same s F (suc (suc (suc (suc (suc (suc (suc (suc k)))))))) r o A =
-    absurd (omega (arith, between-true 1 7 (suc (suc (suc (suc (suc (suc (suc (suc k)))))))) (and-left _ _ (A .kind))))
+accepted-same s F (suc (suc (suc (suc (suc (suc (suc (suc zero)))))))) r o A = refl
+accepted-same s F (suc (suc (suc (suc (suc (suc (suc (suc (suc zero))))))))) r o A = refl
+accepted-same s F (suc (suc (suc (suc (suc (suc (suc (suc (suc (suc k)))))))))) r o A =
+    absurd (omega (arith, between-true 1 9 (suc (suc (suc (suc (suc (suc (suc (suc (suc (suc k)))))))))) (and-left _ _ (A .kind))))
 
 pub step-same : (s : State) → Facts s → (k r o : ℕ) → step s k r o ≡ B.step65 s k r o
 unfolding step B.step65

@@ -17,7 +17,7 @@ use Rattle.inheritance.specs.Running.{isReady}
 use Rattle.refusals.specs.Refusals.{isRequest, modeOf, refusal, jobRefusal, objectRefusal, processorRefusal}
 use Rattle.events.specs.declared.Outcome.{Outcome}
 use Rattle.events.specs.declared.Answer.the-variants.{Granted, Waits, Done, Refused}
-use Rattle.events.specs.Events.{outcome, start, woken, unlessRefused}
+use Rattle.events.specs.Events.{outcome, start, woken, sleepOrAwaken, unlessRefused}
 use Rattle.questions.specs.declared.RankAnswer.{RankAnswer}
 use Rattle.questions.specs.declared.NamedAnswer.{NamedAnswer}
 use Rattle.questions.specs.declared.CeilingsAnswer.{CeilingsAnswer}
@@ -86,6 +86,7 @@ accepted65 s k r o =
     if isRequest k then requestMeeting65 s (modeOf k) r o (lowestKey65 s r) else
     if eqb k 4 then wake65 (release s r o) else
     if between 5 6 k then wake65 (endRun s r) else
+    if between 8 9 k then sleepOrAwaken s k r else
     outcome (Refused 9) s
 
 unfoldable pub step65 : State → ℕ → ℕ → ℕ → Outcome

@@ -1,18 +1,20 @@
--- One processor, version 1: in a state that is reached, a request of the job that the processor runs passes by both rules, or meets the same lock.
+-- One processor, version 1: in a state that is reached, where no sleeping holder is more urgent than the job that the processor runs, a request of that job
+-- passes by both rules, or meets the same lock.
 -- The job that runs is the most urgent holder, or more urgent than every holder; so each lock that stops it weighs the same by both rules.
 -- Assumes nothing.
 use mathlib.Core.Path.{_≡_, refl, sym, subst, ap, _∙_}
 use mathlib.Core.Logic.{_≢_, _⊎_, inl, inr}
-use mathlib.Core.Bool.{Bool, true, false, not, _&&_}
+use mathlib.Core.Bool.{Bool, true, false, not, _&&_, _||_}
 use Prim.Native.Nat.{ℕ, zero, suc, _+_, _*_, _≤_, _<_}
 use native.Mathlib.Omega.{arith}
 use native.Mathlib.Decide.{ℕ-discrete, decLt}
 use lib.Dec.{eqb}
 use borrow.Author.Tests.{eqb-false, eq-eqb, ne-eqb, lt-ltb}
-use Rattle.basics.specs.Choice.{if_then_else_, _if_else_}
+use Rattle.basics.specs.Choice.{if_then_else_, _if_else_, or-right}
 use Rattle.basics.specs.Loops.{least, least-top, least-le, least-at}
+use Rattle.ranks.specs.Ranks.{member}
 use Rattle.state.specs.declared.State.{State}
-use Rattle.state.specs.State.{mostJobs, mostObjects, processorOf, isActive, requestOf}
+use Rattle.state.specs.State.{mostJobs, mostObjects, read, write, processorOf, holders, holds, holdsAny, isActive, isSleeping, requestOf}
 use Rattle.state.specs.Facts.{Facts}
 use Rattle.state.specs.Modes.{either-mode}
 use Rattle.state.specs.WellFormedFacts.{facts-well-formed, held-rank}
@@ -33,7 +35,7 @@ use Rattle.basics.specs.Replies.{value}
 use Rattle.questions.specs.Answers.{rankReply}
 use Rattle.questions.specs.Questions.{askRunning}
 use Rattle.theory.specs.Keeps.{TopHolder, named-top, top-not-waiting}
-use Rattle.promises.specs.Terms.{named, oldRequest}
+use Rattle.promises.specs.Terms.{named, oldRequest, NoSleeperAbove}
 use Rattle.promises.specs.Weights.{lockWeight, lock-below, lock-held}
 use Rattle.promises.specs.View.{as-number-true, view, waits-requested, no-request, names-lowest, seen}
 use Rattle.promises.specs.Requests.{accepted-request, refused-number}
@@ -106,29 +108,44 @@ module _ (s : State) (K : Kept s) (first : s .counts .version ≡ 1) (one : s .c
       go x false e true g z = omega (arith, simp (ne-eqb 0 j (λ y. omega arith)) at z)
       go x false e false g z = omega (arith, simp (ne-eqb (keyHolder (lowestKey s x)) j (another x (eqb-false (requestOf s x) 0 e) g)) at z)
 
-  ready-key : (y : ℕ) → 1 ≤ y → y ≤ s .counts .jobs → isActive s y ≡ true → requestOf s y ≡ 0 → readyKey s 0 y ≡ R.inheritedRank s y * 256 + y
-  ready-key y a b active free =
+  ready-key : (y : ℕ) → 1 ≤ y → y ≤ s .counts .jobs → isActive s y ≡ true → isSleeping s y ≡ false → requestOf s y ≡ 0
+      → readyKey s 0 y ≡ R.inheritedRank s y * 256 + y
+  ready-key y a b active awake free =
       let p : processorOf s y ≡ 0 = omega (arith, F .processors y a b) in
-      simp (eq-eqb (processorOf s y) 0 p, active, eq-eqb (requestOf s y) 0 free)
+      simp (eq-eqb (processorOf s y) 0 p, active, awake, eq-eqb (requestOf s y) 0 free)
 
-  ready-below : (y : ℕ) → 1 ≤ y → y ≤ s .counts .jobs → isActive s y ≡ true → requestOf s y ≡ 0 → runKey s 0 ≤ y * 256 + y
-  ready-below y a b active free =
-      omega (arith, least-le (s .counts .jobs) noKey (readyKey s 0) y a b, ready-key y a b active free, inherits-low y)
+  ready-below : (y : ℕ) → 1 ≤ y → y ≤ s .counts .jobs → isActive s y ≡ true → isSleeping s y ≡ false → requestOf s y ≡ 0 → runKey s 0 ≤ y * 256 + y
+  ready-below y a b active awake free =
+      omega (arith, least-le (s .counts .jobs) noKey (readyKey s 0) y a b, ready-key y a b active awake free, inherits-low y)
+
+  -- a lock in some mode is one in either
+  held-any : (m y q : ℕ) → holds s m y q ≡ true → holdsAny s y q ≡ true
+  held-any m y q =
+      either-mode (λ f. member (f (holders s read q) (holders s write q)) y ≡ true → holdsAny s y q ≡ true)
+      (λ e. ap (λ b. b || holds s write y q) e) (or-right (holds s read y q) (holds s write y q)) m
 
   -- the job that runs is more urgent than each other holder
-  runs-above : (j h p : ℕ) → 1 ≤ j → j ≤ s .counts .jobs → runningRank s 0 ≡ j → h ≢ j → lockWeight s h p < noWeight → j < h
-  runs-above j h p low high run d held = elim (decLt j h) [
+  runs-above : (j h p : ℕ) → 1 ≤ j → j ≤ s .counts .jobs → NoSleeperAbove s j → runningRank s 0 ≡ j → h ≢ j → lockWeight s h p < noWeight → j < h
+  runs-above j h p low high above run d held = elim (decLt j h) [
     | yes z ↦ z
     | no z ↦ absurd (elim (ℕ-discrete (requestOf s h) 0) [ yes free ↦ ready h p held (omega arith) free | no w ↦ waiting (omega arith) w ])
   ]
     where
-      -- a holder more urgent than j that doesn't wait runs before it
+      -- a holder more urgent than j is awake
+      awake : (m y q : ℕ) → holds s m y q ≡ true → y < j → isSleeping s y ≡ false
+      awake m y q h less = go (isSleeping s y) refl
+        where
+          go : (b : Bool) → isSleeping s y ≡ b → b ≡ false
+          go true e = absurd (omega (arith, above y q (held-any m y q h) e))
+          go false e = refl
+
+      -- and if it doesn't wait, it runs before j
       ready : (y q : ℕ) → lockWeight s y q < noWeight → y < j → requestOf s y ≡ 0 → ⊥
       ready y q held less free =
           let H = lock-held s y q held in
           let rank = held-rank s F (H .mode) y q (H .held) in
           let active = as-number-true (isActive s y) (K .invariant .holder y q held) in
-          let below = ready-below y (rank .0) (rank .1) active free in
+          let below = ready-below y (rank .0) (rank .1) active (awake (H .mode) y q (H .held) less) free in
           let own = inherits-own j y q low held less in
           let key = running-ready s 0 j (F .counts .jobs .1) low run .key in
           omega arith
@@ -143,12 +160,12 @@ module _ (s : State) (K : Kept s) (first : s .counts .version ≡ 1) (one : s .c
   -- ---- one request
 
   -- it passes by both rules, or meets the same lock
-  pub same-key : (j : ℕ) → 1 ≤ j → j ≤ s .counts .jobs → runningRank s 0 ≡ j
+  pub same-key : (j : ℕ) → 1 ≤ j → j ≤ s .counts .jobs → NoSleeperAbove s j → runningRank s 0 ≡ j
       → ((passes s j ≡ true) × (oldPasses s j ≡ true)) ⊎ (oldLowestKey s j ≡ lowestKey s j)
-  same-key j low high run = elim (decLt j (keyWeight (lowestKey s j))) [
+  same-key j low high above run = elim (decLt j (keyWeight (lowestKey s j))) [
     | yes l ↦ inl (lt-ltb j (keyWeight (lowestKey s j)) l, lt-ltb j (keyWeight (oldLowestKey s j)) (omega (arith, old-key-above s first j)))
     | no n ↦ inr (old-key-same s first j (omega (arith, F .counts .jobs)) (F .counts .objects .1)
-        (λ m r o l w. runs-above j r o low high run (l .other) (omega (arith, lock-below s m r o (l .mode) (l .held), weight-small s m r o, F .counts .jobs))) (omega arith))
+        (λ m r o l w. runs-above j r o low high above run (l .other) (omega (arith, lock-below s m r o (l .mode) (l .held), weight-small s m r o, F .counts .jobs))) (omega arith))
   ]
 
   pub running-is : value (rankReply (askRunning s 0)) 0 0 ≡ runningRank s 0
@@ -164,12 +181,12 @@ request-same s m j o (inl p) = simp (p .0, p .1)
 request-same s m j o (inr e) = ap (requestMeeting s m j o) (sym e)
 
 pub one-request : (s : State) → Kept s → s .counts .version ≡ 1 → s .counts .processors ≡ 1 → (k j o : ℕ) → isRequest k ≡ true
-    → value (rankReply (askRunning s 0)) 0 0 ≡ j → paper (step s k j o .answer) .number ≢ 4 → step s k j o ≡ oldRequest s (modeOf k) j o
-one-request s K first one k j o kind run ok = go (refusal s k j o) refl
+    → value (rankReply (askRunning s 0)) 0 0 ≡ j → NoSleeperAbove s j → paper (step s k j o .answer) .number ≢ 4 → step s k j o ≡ oldRequest s (modeOf k) j o
+one-request s K first one k j o kind run above ok = go (refusal s k j o) refl
   where
     go : (n : ℕ) → refusal s k j o ≡ n → step s k j o ≡ oldRequest s (modeOf k) j o
     go zero e =
         let rank = not-refused s k j o e .rank in
         step-accepted s k j o e ∙ accepted-request s k j o kind
-        ∙ request-same s (modeOf k) j o (same-key s K first one j (rank .0) (rank .1) (sym (running-is s K first one) ∙ run))
+        ∙ request-same s (modeOf k) j o (same-key s K first one j (rank .0) (rank .1) above (sym (running-is s K first one) ∙ run))
     go (suc n) e = absurd (ok (refused-number s k j o n e))

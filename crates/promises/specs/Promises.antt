@@ -37,7 +37,7 @@ use Rattle.theory.specs.Keeps.{none-passes}
 use Rattle.theory.specs.WritesStay.{write-kept}
 use Rattle.theory.specs.Lists.{stateAt, labelAt, demand3-of, writes-stay-of, writes-shown-of, writes-certified-of, in-order-of}
 use Rattle.theory.specs.RunOrder.{InOrder}
-use Rattle.promises.specs.Terms.{Event, outcomeOf, next, label, named, Reached, fresh, after, oldRequest, AboveWriters, CeilingIs}
+use Rattle.promises.specs.Terms.{Event, outcomeOf, next, label, named, Reached, fresh, after, oldRequest, NoSleeperAbove, AboveWriters, CeilingIs}
 use Rattle.promises.specs.TableStates.{read-sized, read-version}
 use Rattle.promises.specs.View.{view}
 use Rattle.promises.specs.LockModes.{modes, write-mode, mode-write, certify-mode, mode-certify}
@@ -124,12 +124,14 @@ nobody-to-wake {t} r = nobody-left t (no-waiting-request-passes r)
 -- ---- ONE PROCESSOR
 -- "Equality with it is claimed for one state, reached from a fresh one by any events, and one request of the job that
 -- the only processor runs: the same grant or wait, the same named lock." A request is of kind 2, 3 or 7, and not refused, the fourth answer.
--- 02, CR 6: "The old rule's equality is for version 1 alone."
+-- 02, CR 6: "The old rule's equality is for version 1 alone." 02, CR 8: "Answers equal the old rule's where no more urgent holder sleeps."
+-- That the condition is needed is `asleep-differs` (Example.antt).
 pub one-processor : {t : State} → Reached t → t .counts .version ≡ 1 → t .counts .processors ≡ 1
-    → (e : Event) → isRequest (e .kind) ≡ true → value (rankReply (askRunning t 0)) 0 0 ≡ e .rank → paper (outcomeOf t e .answer) .number ≢ 4
+    → (e : Event) → isRequest (e .kind) ≡ true → value (rankReply (askRunning t 0)) 0 0 ≡ e .rank → NoSleeperAbove t (e .rank)
+    → paper (outcomeOf t e .answer) .number ≢ 4
     → paper (outcomeOf t e .answer) ≡ paper (oldRequest t (modeOf (e .kind)) (e .rank) (e .object) .answer)
-one-processor {t} r first one e kind run ok =
-    ap (λ x. paper (x .answer)) (one-request t (kept r) first one (e .kind) (e .rank) (e .object) kind run ok)
+one-processor {t} r first one e kind run above ok =
+    ap (λ x. paper (x .answer)) (one-request t (kept r) first one (e .kind) (e .rank) (e .object) kind run above ok)
 
 -- ---- NOBODY IS ONE PAST THE LAST RANK
 -- 02, CR 4, of any well-formed state, handed in or reached. The rule with 65 for nobody, which stood before, is in NobodyAs65.antt:

@@ -7,12 +7,13 @@ use Prim.Native.Nat.{ℕ, zero, suc, _≤_, _<_}
 use native.Mathlib.Omega.{arith}
 use native.Mathlib.Decide.{ℕ-discrete}
 use lib.Dec.{eqb}
-use borrow.Author.Tests.{ne-eqb, not-false, le-leb, lt-leb}
+use borrow.Author.Tests.{ne-eqb, not-false}
 use Rattle.basics.specs.Choice.{if_then_else_, clash, between, and-left, between-true}
+use Rattle.ranks.specs.Ranks.{with, without}
 use Rattle.ranks.specs.RankLaws.{member-with-same, member-without-same}
 use Rattle.state.specs.declared.State.{State}
 use Rattle.state.specs.State.{mostObjects, read, write, certify, holds, holdsAny, isCertified, isActive, hasUnlocked, requestOf, modeOfRequest, objectOfRequest, requestedObject}
-use Rattle.state.specs.State.{activate, await, grant, release, endRun}
+use Rattle.state.specs.State.{withSleepers, activate, await, grant, release, fallAsleep, awaken, endRun}
 use Rattle.state.specs.Facts.{RequestFacts, Facts}
 use Rattle.state.specs.Changes.{activate-same, await-same, object-fits, await-request, grant-request, grant-same, grant-locks}
 use Rattle.state.specs.Changes.{release-none, release-same, release-locks, end-request, end-same, end-none, end-locks}
@@ -29,7 +30,7 @@ use Rattle.events.specs.Events.{outcome, requestMeeting, request, woken, wake, 
 use Rattle.manager.specs.Step.{step}
 use Rattle.theory.specs.Words.{Label, Ends}
 use Rattle.theory.specs.Machine.{MayRequest, Step}
-use Rattle.theory.specs.Build.{labelled, ends-run, refused-step, start-step, grant-step, wait-step, unlock-step, end-step}
+use Rattle.theory.specs.Build.{labelled, ends-run, nothing-step, refused-step, start-step, grant-step, wait-step, unlock-step, end-step}
 use Rattle.theory.specs.Modes.{ModeStep, nothing-modes, wait-modes, grant-modes, release-modes}
 use Rattle.promises.specs.Terms.{happened, labelOf}
 use Rattle.promises.specs.Weights.{passes-all, fails-blocked}
@@ -155,6 +156,15 @@ module _ (s : State) (F : Facts s) (r : ℕ) (low : 1 ≤ r) (high : r ≤ s .co
       marked : asNumber (hasUnlocked (release s r o) r) ≢ 0
       marked e = let z : asNumber (hasUnlocked (release s r o) r) ≡ 1 = ap asNumber (member-with-same (s .unlocked) r low) in omega arith
 
+  -- other sleepers are not seen here
+  sleepers-go : (o z : ℕ) → Goes s (labelled 0 r o 0 0) (withSleepers s z)
+  sleepers-go o z = record {
+    step =
+        nothing-step r o (λ x p. weight-frame s (withSleepers s z) x p (record { locks = λ m. refl; certified = λ h. refl })) (λ x. refl) (λ x. refl) (λ x. refl);
+    moves = nothing-modes 0 r o (omega arith) (λ x. refl) (λ x p. refl);
+    granted = λ e. absurd (omega arith);
+  }
+
   -- what: 5 finish, 6 abandon
   end-goes : (what o : ℕ) → 5 ≤ what → what ≤ 6 → (what ≤ 5 → requestOf s r ≡ 0)
       → Goes s (labelled what r o 0 (wakeable (endRun s r))) (woken (endRun s r) (wakeable (endRun s r)))
@@ -193,7 +203,7 @@ abbrev pub OutcomeGoes : State → ℕ → ℕ → ℕ → Outcome → Type 0
 OutcomeGoes s k r o x = Goes s (labelOf k r o (paper (x .answer))) (x .state)
 
 accepted-goes : (s : State) → Facts s → (k r o : ℕ) → AcceptedEvent s k r o → OutcomeGoes s k r o (accepted s k r o)
-unfolding accepted wake
+unfolding accepted wake fallAsleep awaken
 accepted-goes s F zero r o A = absurd (clash (A .kind) refl)
 accepted-goes s F (suc zero) r o A = start-goes s F r (A .rank .0) (A .rank .1) o (A .not-12)
 accepted-goes s F (suc (suc zero)) r o A =
@@ -210,8 +220,10 @@ accepted-goes s F (suc (suc (suc (suc (suc (suc zero)))))) r o A =
     end-goes s F r (A .rank .0) (A .rank .1) 6 o (omega arith) (omega arith) (λ l. absurd (omega arith))
 accepted-goes s F (suc (suc (suc (suc (suc (suc (suc zero))))))) r o A =
     request-goes s F r (A .rank .0) (A .rank .1) certify o (certify-facts s (F .version) r o A) (not-waiting s r (A .not-14)) 7 refl
-accepted-goes s F (suc (suc (suc (suc (suc (suc (suc (suc k)))))))) r o A =
-    absurd (omega (arith, between-true 1 7 (suc (suc (suc (suc (suc (suc (suc (suc k)))))))) (and-left _ _ (A .kind))))
+accepted-goes s F (suc (suc (suc (suc (suc (suc (suc (suc zero)))))))) r o A = sleepers-go s F r (A .rank .0) (A .rank .1) o (with (s .sleeping) r)
+accepted-goes s F (suc (suc (suc (suc (suc (suc (suc (suc (suc zero))))))))) r o A = sleepers-go s F r (A .rank .0) (A .rank .1) o (without (s .sleeping) r)
+accepted-goes s F (suc (suc (suc (suc (suc (suc (suc (suc (suc (suc k)))))))))) r o A =
+    absurd (omega (arith, between-true 1 9 (suc (suc (suc (suc (suc (suc (suc (suc (suc (suc k)))))))))) (and-left _ _ (A .kind))))
 
 pub step-goes : (s : State) → Facts s → (k r o : ℕ) → OutcomeGoes s k r o (step s k r o)
 unfolding step
@@ -232,5 +244,5 @@ step-goes s F k r o = go (refusal s k r o) refl
 pub done-kind : (k : ℕ) (p : Paper) → between 4 6 k ≡ true → p .number ≡ 3 → 4 ≤ happened k p
 done-kind k p kind done =
     let known = between-true 4 6 k kind in
-    let is : happened k p ≡ k = simp (done, lt-leb k 3 (omega arith), le-leb 2 k (omega arith), ne-eqb k 7 (λ q. omega arith)) in
+    let is : happened k p ≡ k = simp (done, kind, ne-eqb k 1 (λ q. omega arith)) in
     omega arith

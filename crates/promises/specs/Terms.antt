@@ -1,20 +1,20 @@
 -- The terms of the promises: events, what demand 3 reads off an event and its answer, whom a job names, the states that are reached,
--- a request by the old rule, who is more urgent than an object's writers, and a ceiling. The sentences in quotes are document 01's, or where it says so 02's.
+-- a request by the old rule, no sleeper above a job, who is more urgent than an object's writers, and a ceiling. The sentences in quotes are document 01's, or where it says so 02's.
 -- Assumes nothing.
 use mathlib.Core.Path.{_≡_}
-use mathlib.Core.Bool.{Bool, true}
+use mathlib.Core.Bool.{Bool, true, _||_}
 use Prim.Native.Nat.{ℕ, _+_, _≤_, _<_}
 use lib.Dec.{eqb}
 use lib.ListN.{getD}
-use Rattle.basics.specs.Choice.{if_then_else_}
+use Rattle.basics.specs.Choice.{if_then_else_, between}
 use Rattle.state.specs.declared.State.{State}
-use Rattle.state.specs.State.{write, mayLock}
+use Rattle.state.specs.State.{write, mayLock, holdsAny, isSleeping}
 use Rattle.state.specs.Facts.{Sized, In}
 use Rattle.table.specs.Fresh.{Fresh}
 use Rattle.weights.specs.Keys.{oldLowestKey}
 use Rattle.events.specs.declared.Outcome.{Outcome}
 use Rattle.events.specs.Answers.{Paper, paper}
-use Rattle.refusals.specs.Refusals.{isRequest, modeOf}
+use Rattle.refusals.specs.Refusals.{modeOf}
 use Rattle.events.specs.Events.{requestMeeting}
 use Rattle.manager.specs.Step.{step}
 use Rattle.basics.specs.Replies.{value}
@@ -47,12 +47,13 @@ isWaits p = eqb (p .number) 2
 abbrev pub isDone : Paper → Bool
 isDone p = eqb (p .number) 3
 
--- what happened, as the labels of demand 3 number it: 2 granted, 3 waits; done, the kind 1, 4, 5 or 6 itself; 0 anything else
+-- what happened, as the labels of demand 3 number it: 2 granted, 3 waits; done, the kind 1, 4, 5 or 6 itself; 0 anything else, and so for kinds 8 and 9,
+-- which move no lock
 abbrev pub happened : ℕ → Paper → ℕ
 happened k p =
     if isGranted p then 2 else
     if isWaits p then 3 else
-    if isDone p then (if isRequest k then 0 else k) else
+    if isDone p then (if eqb k 1 || between 4 6 k then k else 0) else
     0
 
 -- "A request is an event answered granted or waits", of kind 2, 3 or 7: its mode, 1 read, 2 write or 3 certify; 0 where there is none
@@ -83,6 +84,10 @@ pub data Reached : State → Type 0 where
 -- ---- a request of r for object o in mode m by the old rule: "The old rule is the same with a read lock weighing the write ceiling alone."
 abbrev pub oldRequest : State → ℕ → ℕ → ℕ → Outcome
 oldRequest s m r o = requestMeeting s m r o (oldLowestKey s r)
+
+-- ---- no sleeping holder is more urgent than j: 02, CR 8: "where no more urgent holder sleeps"
+abbrev pub NoSleeperAbove : State → ℕ → Type 0
+NoSleeperAbove s j = (h o : ℕ) → holdsAny s h o ≡ true → isSleeping s h ≡ true → j ≤ h
 
 -- ---- job j is more urgent than every job that is declared to write object o
 abbrev pub AboveWriters : State → ℕ → ℕ → Type 0
