@@ -8,7 +8,7 @@
  * beside the read locks of others. Before its run can finish, a job turns each of its write locks into a certify lock, which stands alone: under it the
  * job's copy takes the place of the one that readers see. After an unlock a job can certify no more: with a write lock left, its run can only be abandoned.
  *
- * Every call may be given any contents of the struct, any bytes and any numbers: it answers, or refuses by a number from 1 to 25 (below).
+ * Every call may be given any contents of the struct, any bytes and any numbers: it answers, or refuses by a number from 1 to 27 (below).
  * A call that refuses leaves every byte that was lent to it as it was; an event that is refused in a list of events leaves the state as it was, and has its
  * answer as the others have. No call allocates, blocks, ends the program or keeps anything between calls, so that two threads may work on two states.
  * Reading a table takes about 6 KB of stack and writing one about 14 KB, an event, a list of events, a question, the state page or a test load less
@@ -53,6 +53,7 @@ typedef struct vongselik_state {
     uint64_t may_write[VONGSELIK_MOST_OBJECTS];        /* by object - 1: the ranks that are declared to write it */
     uint64_t active;                                   /* the ranks of active jobs */
     uint64_t unlocked;                                 /* the ranks of jobs that have unlocked in this run, and may not lock any more */
+    uint64_t sleeping;                                 /* the ranks of jobs that sleep: active ones that do not wait */
     uint64_t readers[VONGSELIK_MOST_OBJECTS];          /* by object - 1: the ranks that hold a read lock */
     uint64_t writers[VONGSELIK_MOST_OBJECTS];          /* by object - 1: the rank that holds the write or certify lock, to the end of its run */
     uint64_t certified[2];                             /* object o is bit (o - 1) % 64 of word (o - 1) / 64: its write lock is a certify lock */
@@ -69,7 +70,9 @@ enum {
     VONGSELIK_UNLOCK = 4,     /* for read locks: gives up the lock; the job may lock no more in this run. Write and certify locks stay until the end */
     VONGSELIK_FINISH = 5,     /* ends the run and releases everything */
     VONGSELIK_ABANDON = 6,    /* as finish, also for a waiting job, whose request is dropped, and with write locks that are not certified */
-    VONGSELIK_CERTIFY = 7     /* on a version 2 table, turns the job's write lock into a certify lock: granted, or the job waits and keeps the write lock */
+    VONGSELIK_CERTIFY = 7,    /* on a version 2 table, turns the job's write lock into a certify lock: granted, or the job waits and keeps the write lock */
+    VONGSELIK_SLEEP = 8,      /* the job falls asleep: its processor passes over it, and it keeps its locks */
+    VONGSELIK_WAKE = 9        /* the sleeping job is awake again. No lock is given to anybody */
 };
 
 /* Answers to an event. */
@@ -104,7 +107,7 @@ enum {
     /* by the event or the question */
     VONGSELIK_UNKNOWN_KIND = 9, /* or certify on a version 1 table */
     VONGSELIK_RANK_OUT_OF_RANGE = 10,
-    VONGSELIK_OBJECT_OUT_OF_RANGE = 11, /* or not 0 for start, finish and abandon */
+    VONGSELIK_OBJECT_OUT_OF_RANGE = 11, /* or not 0 for start, finish, abandon, sleep and wake */
     VONGSELIK_ALREADY_ACTIVE = 12,
     VONGSELIK_IDLE = 13,
     VONGSELIK_WAITING = 14,
@@ -118,7 +121,9 @@ enum {
     VONGSELIK_BUFFER_TOO_SHORT_FOR_PAGE = 22,
     VONGSELIK_BUFFER_TOO_SHORT_FOR_EVENTS = 23, /* shorter than three times the count */
     VONGSELIK_CERTIFY_WITHOUT_WRITE_LOCK = 24,
-    VONGSELIK_FINISH_WITHOUT_CERTIFY = 25 /* on a version 2 table, finish with a write lock that is not certified */
+    VONGSELIK_FINISH_WITHOUT_CERTIFY = 25, /* on a version 2 table, finish with a write lock that is not certified */
+    VONGSELIK_ASLEEP = 26, /* a lock, unlock, finish, certify or sleep of a sleeping job */
+    VONGSELIK_NOT_ASLEEP = 27 /* wake of a job that is not asleep */
 };
 
 /* The answer to an event. What its case does not have is 0. */
@@ -142,54 +147,54 @@ typedef struct vongselik_entries {
 
 uint32_t vongselik_parts_event(
     uint8_t version, uint8_t processors, uint8_t jobs, uint8_t objects, const uint8_t *processor_of, const uint64_t *may_read, const uint64_t *may_write,
-    uint64_t *active, uint64_t *unlocked, uint64_t *readers, uint64_t *writers, uint64_t *certified, uint16_t *request,
+    uint64_t *active, uint64_t *unlocked, uint64_t *sleeping, uint64_t *readers, uint64_t *writers, uint64_t *certified, uint16_t *request,
     uint8_t kind, uint8_t rank, uint8_t object);
 
 size_t vongselik_parts_events(
     uint8_t version, uint8_t processors, uint8_t jobs, uint8_t objects, const uint8_t *processor_of, const uint64_t *may_read, const uint64_t *may_write,
-    uint64_t *active, uint64_t *unlocked, uint64_t *readers, uint64_t *writers, uint64_t *certified, uint16_t *request,
+    uint64_t *active, uint64_t *unlocked, uint64_t *sleeping, uint64_t *readers, uint64_t *writers, uint64_t *certified, uint16_t *request,
     const uint8_t *events, size_t events_size, uint32_t *answers, size_t answers_size);
 
 uint8_t vongselik_parts_inherited_rank(
     uint8_t version, uint8_t processors, uint8_t jobs, uint8_t objects, const uint8_t *processor_of, const uint64_t *may_read, const uint64_t *may_write,
-    uint64_t active, uint64_t unlocked, const uint64_t *readers, const uint64_t *writers, const uint64_t *certified, const uint16_t *request,
+    uint64_t active, uint64_t unlocked, uint64_t sleeping, const uint64_t *readers, const uint64_t *writers, const uint64_t *certified, const uint16_t *request,
     uint8_t rank, uint8_t *inherited);
 
 uint8_t vongselik_parts_named_lock(
     uint8_t version, uint8_t processors, uint8_t jobs, uint8_t objects, const uint8_t *processor_of, const uint64_t *may_read, const uint64_t *may_write,
-    uint64_t active, uint64_t unlocked, const uint64_t *readers, const uint64_t *writers, const uint64_t *certified, const uint16_t *request,
+    uint64_t active, uint64_t unlocked, uint64_t sleeping, const uint64_t *readers, const uint64_t *writers, const uint64_t *certified, const uint16_t *request,
     uint8_t rank, uint8_t *holder, uint8_t *object);
 
 uint8_t vongselik_parts_ceilings(
     uint8_t version, uint8_t processors, uint8_t jobs, uint8_t objects, const uint8_t *processor_of, const uint64_t *may_read, const uint64_t *may_write,
-    uint64_t active, uint64_t unlocked, const uint64_t *readers, const uint64_t *writers, const uint64_t *certified, const uint16_t *request,
+    uint64_t active, uint64_t unlocked, uint64_t sleeping, const uint64_t *readers, const uint64_t *writers, const uint64_t *certified, const uint16_t *request,
     uint8_t object, uint16_t *write_ceiling, uint16_t *absolute_ceiling);
 
 uint8_t vongselik_parts_running(
     uint8_t version, uint8_t processors, uint8_t jobs, uint8_t objects, const uint8_t *processor_of, const uint64_t *may_read, const uint64_t *may_write,
-    uint64_t active, uint64_t unlocked, const uint64_t *readers, const uint64_t *writers, const uint64_t *certified, const uint16_t *request,
+    uint64_t active, uint64_t unlocked, uint64_t sleeping, const uint64_t *readers, const uint64_t *writers, const uint64_t *certified, const uint16_t *request,
     uint8_t processor, uint8_t *rank);
 
 uint8_t vongselik_parts_read_table(
     const uint8_t *bytes, size_t size, size_t *used, uint8_t *version, uint8_t *processors, uint8_t *jobs, uint8_t *objects, uint8_t *processor_of,
-    uint64_t *may_read, uint64_t *may_write, uint64_t *active, uint64_t *unlocked, uint64_t *readers, uint64_t *writers, uint64_t *certified,
-    uint16_t *request);
+    uint64_t *may_read, uint64_t *may_write, uint64_t *active, uint64_t *unlocked, uint64_t *sleeping, uint64_t *readers, uint64_t *writers,
+    uint64_t *certified, uint16_t *request);
 
 uint8_t vongselik_parts_job_entries(const uint8_t *bytes, size_t size, uint8_t rank, size_t *start, size_t *length);
 
 uint8_t vongselik_parts_write_table(
     uint8_t version, uint8_t processors, uint8_t jobs, uint8_t objects, const uint8_t *processor_of, const uint64_t *may_read, const uint64_t *may_write,
-    uint64_t active, uint64_t unlocked, const uint64_t *readers, const uint64_t *writers, const uint64_t *certified, const uint16_t *request,
+    uint64_t active, uint64_t unlocked, uint64_t sleeping, const uint64_t *readers, const uint64_t *writers, const uint64_t *certified, const uint16_t *request,
     uint8_t *buffer, size_t size, size_t *length);
 
 uint8_t vongselik_parts_page(
     uint8_t version, uint8_t processors, uint8_t jobs, uint8_t objects, const uint8_t *processor_of, const uint64_t *may_read, const uint64_t *may_write,
-    uint64_t active, uint64_t unlocked, const uint64_t *readers, const uint64_t *writers, const uint64_t *certified, const uint16_t *request,
+    uint64_t active, uint64_t unlocked, uint64_t sleeping, const uint64_t *readers, const uint64_t *writers, const uint64_t *certified, const uint16_t *request,
     uint8_t *buffer, size_t size, size_t *length);
 
 uint8_t vongselik_parts_make_events(
     uint8_t version, uint8_t processors, uint8_t jobs, uint8_t objects, const uint8_t *processor_of, const uint64_t *may_read, const uint64_t *may_write,
-    uint64_t active, uint64_t unlocked, const uint64_t *readers, const uint64_t *writers, const uint64_t *certified, const uint16_t *request,
+    uint64_t active, uint64_t unlocked, uint64_t sleeping, const uint64_t *readers, const uint64_t *writers, const uint64_t *certified, const uint16_t *request,
     uint32_t *seed, size_t count, uint8_t *buffer, size_t size);
 
 /* ---- Tables */
@@ -202,7 +207,7 @@ static inline uint8_t vongselik_read_table(vongselik_state *state, const uint8_t
     const uint8_t none = 0;
     return vongselik_parts_read_table(
         size ? bytes : &none, size, used, &state->version, &state->processors, &state->jobs, &state->objects, state->processor_of, state->may_read,
-        state->may_write, &state->active, &state->unlocked, state->readers, state->writers, state->certified, state->request);
+        state->may_write, &state->active, &state->unlocked, &state->sleeping, state->readers, state->writers, state->certified, state->request);
 }
 
 /* Says where the entries of one job stand in table bytes; length 0 if it has none.
@@ -222,7 +227,7 @@ static inline uint8_t vongselik_write_table(const vongselik_state *state, uint8_
     uint8_t none = 0;
     return vongselik_parts_write_table(
         state->version, state->processors, state->jobs, state->objects, state->processor_of, state->may_read, state->may_write, state->active,
-        state->unlocked, state->readers, state->writers, state->certified, state->request, size ? buffer : &none, size, length);
+        state->unlocked, state->sleeping, state->readers, state->writers, state->certified, state->request, size ? buffer : &none, size, length);
 }
 
 /* ---- Events */
@@ -244,19 +249,19 @@ static inline vongselik_answer vongselik_unpack(uint32_t packed)
     return answer;
 }
 
-/* An event of a job: its kind, its rank, and an object (0 for start, finish and abandon). Changes the state, and answers granted, waits or done.
- * Refusals: 8 to 18, 21, 24, 25, by the answer VONGSELIK_REFUSED. The state is then as it was. The table in the state is never changed. */
+/* An event of a job: its kind, its rank, and an object (0 for start, finish, abandon, sleep and wake). Changes the state, and answers granted, waits or done.
+ * Refusals: 8 to 18, 21, 24 to 27, by the answer VONGSELIK_REFUSED. The state is then as it was. The table in the state is never changed. */
 static inline vongselik_answer vongselik_event(vongselik_state *state, uint8_t kind, uint8_t rank, uint8_t object)
 {
     return vongselik_unpack(vongselik_parts_event(
         state->version, state->processors, state->jobs, state->objects, state->processor_of, state->may_read, state->may_write, &state->active,
-        &state->unlocked, state->readers, state->writers, state->certified, state->request, kind, rank, object));
+        &state->unlocked, &state->sleeping, state->readers, state->writers, state->certified, state->request, kind, rank, object));
 }
 
 /* A list of events, three bytes each: kind, rank, object. Changes the state and answers them in their order, each as vongselik_event does:
  * answers[i] is the packed answer to the event at byte 3 * i (vongselik_unpack). The events are 3 * count bytes, the answers count elements.
  * The whole state is tested once, and not at each event. Answers how many events it answered: count.
- * Refusals: 8 to 18, 21, 24, 25, each event's by its own answer. A refused event leaves the state as it was, and those after it are answered all the same;
+ * Refusals: 8 to 18, 21, 24 to 27, each event's by its own answer. A refused event leaves the state as it was, and those after it are answered all the same;
  * a state that is not well formed refuses every event by 8, and is then as it was. The table in the state is never changed.
  * Use it for a replay, a log or a test. In live control send one event at a time: here nobody sees an answer before all are given, and there
  * another may ask about the state or change it between two events. */
@@ -266,7 +271,7 @@ static inline size_t vongselik_events(vongselik_state *state, const uint8_t *eve
     uint32_t no_answer = 0;
     return vongselik_parts_events(
         state->version, state->processors, state->jobs, state->objects, state->processor_of, state->may_read, state->may_write, &state->active,
-        &state->unlocked, state->readers, state->writers, state->certified, state->request, count ? events : &no_event, 3 * count,
+        &state->unlocked, &state->sleeping, state->readers, state->writers, state->certified, state->request, count ? events : &no_event, 3 * count,
         count ? answers : &no_answer, count);
 }
 
@@ -278,7 +283,7 @@ static inline uint8_t vongselik_inherited_rank(const vongselik_state *state, uin
 {
     return vongselik_parts_inherited_rank(
         state->version, state->processors, state->jobs, state->objects, state->processor_of, state->may_read, state->may_write, state->active,
-        state->unlocked, state->readers, state->writers, state->certified, state->request, rank, inherited);
+        state->unlocked, state->sleeping, state->readers, state->writers, state->certified, state->request, rank, inherited);
 }
 
 /* Sets *holder and *object to the lock that an active job names, 0 and 0 if it names nobody. Answers 0.
@@ -287,7 +292,7 @@ static inline uint8_t vongselik_named_lock(const vongselik_state *state, uint8_t
 {
     return vongselik_parts_named_lock(
         state->version, state->processors, state->jobs, state->objects, state->processor_of, state->may_read, state->may_write, state->active,
-        state->unlocked, state->readers, state->writers, state->certified, state->request, rank, holder, object);
+        state->unlocked, state->sleeping, state->readers, state->writers, state->certified, state->request, rank, holder, object);
 }
 
 /* The ceiling of an object of the state's table that nobody is declared to lock in that way: one past the last rank. */
@@ -300,31 +305,33 @@ static inline uint8_t vongselik_ceilings(const vongselik_state *state, uint8_t o
 {
     return vongselik_parts_ceilings(
         state->version, state->processors, state->jobs, state->objects, state->processor_of, state->may_read, state->may_write, state->active,
-        state->unlocked, state->readers, state->writers, state->certified, state->request, object, write_ceiling, absolute_ceiling);
+        state->unlocked, state->sleeping, state->readers, state->writers, state->certified, state->request, object, write_ceiling, absolute_ceiling);
 }
 
-/* Sets *rank to the job that the processor runs: its active job that is not waiting with the most urgent inherited rank; 0 if the processor is idle. Answers 0.
+/* Sets *rank to the job that the processor runs: its active job with the most urgent inherited rank among those that neither wait nor sleep; 0 if the
+ * processor is idle. Answers 0.
  * Refusals: 8, 19. *rank is then as it was. */
 static inline uint8_t vongselik_running(const vongselik_state *state, uint8_t processor, uint8_t *rank)
 {
     return vongselik_parts_running(
         state->version, state->processors, state->jobs, state->objects, state->processor_of, state->may_read, state->may_write, state->active,
-        state->unlocked, state->readers, state->writers, state->certified, state->request, processor, rank);
+        state->unlocked, state->sleeping, state->readers, state->writers, state->certified, state->request, processor, rank);
 }
 
 /* ---- The state page */
 
 /* Lays the state page into the front of the buffer, sets *length to the page's length and leaves the rest of the buffer untouched. Answers 0.
  * The page is text, a line for each active job by ascending rank; with no active job its length is 0. A line is 20 characters and a line feed. Its fields
- * are right-aligned, with one space between them: the rank in 3 characters, the processor in 2, a letter (R the job runs, W it waits, I it is ready), the
- * inherited rank in 3, and holder and object of the lock that the job names in 3 each, blank if it names nobody. They are what the questions answer.
+ * are right-aligned, with one space between them: the rank in 3 characters, the processor in 2, a letter (R the job runs, W it waits, Z it sleeps, I it is
+ * ready), the inherited rank in 3, and holder and object of the lock that the job names in 3 each, blank if it names nobody. They are what the questions
+ * answer.
  * Refusals: 8; 22 if the page is longer than the buffer. The buffer and *length are then as they were. The state is only read. */
 static inline uint8_t vongselik_page(const vongselik_state *state, uint8_t *buffer, size_t size, size_t *length)
 {
     uint8_t none = 0;
     return vongselik_parts_page(
         state->version, state->processors, state->jobs, state->objects, state->processor_of, state->may_read, state->may_write, state->active,
-        state->unlocked, state->readers, state->writers, state->certified, state->request, size ? buffer : &none, size, length);
+        state->unlocked, state->sleeping, state->readers, state->writers, state->certified, state->request, size ? buffer : &none, size, length);
 }
 
 /* ---- A test load */
@@ -342,7 +349,7 @@ static inline uint8_t vongselik_make_events(const vongselik_state *state, uint32
     uint8_t none = 0;
     return vongselik_parts_make_events(
         state->version, state->processors, state->jobs, state->objects, state->processor_of, state->may_read, state->may_write, state->active,
-        state->unlocked, state->readers, state->writers, state->certified, state->request, seed, count, size ? buffer : &none, size);
+        state->unlocked, state->sleeping, state->readers, state->writers, state->certified, state->request, seed, count, size ? buffer : &none, size);
 }
 
 #ifdef __cplusplus
