@@ -1,5 +1,6 @@
 -- The example of 01 ("The bench record"), in one table under one theorem: its twelve answers, and the three questions asked on the way. Then the ceilings
--- of an object there that nobody writes. Last an example of version 2 (02, CR 6), in the same way: twelve answers, and one question.
+-- of an object there that nobody writes. Then an example of version 2 (02, CR 6), in the same way: twelve answers, and one question. Last one of jobs that
+-- sleep (02, CR 8), and that a request of the running job can be answered otherwise by the old rule where a more urgent holder sleeps.
 -- Assumes nothing.
 use Prim.Native.Nat.{ℕ}
 use mathlib.Core.Path.{_≡_, refl}
@@ -9,13 +10,13 @@ use Rattle.basics.specs.Loops.{every, least, firstNonzero}
 use Rattle.basics.specs.Arrays.{mapped}
 use Rattle.ranks.specs.Ranks.{member, with, without, first}
 use Rattle.state.specs.declared.State.{State}
-use Rattle.state.specs.State.{mark, keptIn, dropMarks, activate, await, grant, release, endRun}
+use Rattle.state.specs.State.{read, mark, keptIn, dropMarks, activate, await, grant, release, fallAsleep, awaken, endRun}
 use Rattle.state.specs.WellFormed.{processorsFit, declarationsFit, aboveIdle, locksFit, oneLockEach}
 use Rattle.state.specs.WellFormed.{writersAlone, waitsFit, marksFit, certifiesFit, sleepersFit, wellFormed}
 use Rattle.table_bytes.specs.Refusals.{headerRefusal, lengthRefusal, processorByteRefusal, entryRefusal, entriesRefusal, tableRefusal}
 use Rattle.table.specs.Example.{example}
 use Rattle.table.specs.Reading.{processorsOf, withRight, declaredIn, tableState, readTable}
-use Rattle.weights.specs.Weights.{weight}
+use Rattle.weights.specs.Weights.{weight, oldWeight}
 use Rattle.weights.specs.Keys.{othersKey, objectKey, lowestKeyBy}
 use Rattle.rule.specs.Granting.{namedKey, reason, wakeable}
 use Rattle.inheritance.specs.Running as R
@@ -28,6 +29,8 @@ use Rattle.refusals.specs.Refusals.{allCertified, eventRefusal, refusal, jobRef
 use Rattle.events.specs.Events.{requestMeeting, woken, wake, accepted}
 use Rattle.manager.specs.Step.{step}
 use Rattle.questions.specs.Questions.{askInheritedRank, askCeilings, askRunning}
+use Rattle.theory.specs.Lists.{stateAt}
+use Rattle.promises.specs.Terms.{Event, next, label, oldRequest}
 
 -- ---- the four answers, by their number and values
 
@@ -134,3 +137,65 @@ unfolding versionsLines replay
     weight othersKey objectKey lowestKeyBy namedKey reason wakeable R.inheritedRank
     allCertified eventRefusal refusal jobRefusal requestMeeting woken wake accepted step askInheritedRank
 versions-answers = (refl, refl)
+
+-- ---- jobs that sleep
+
+-- version 1, 1 processor; job 1 writes object 1 and reads object 2, job 2 reads both
+abbrev pub sleepTable : List ℕ
+sleepTable = 74 ∷ 79 ∷ 66 ∷ 0 ∷ 1 ∷ 1 ∷ 2 ∷ 2 ∷ 0 ∷ 0 ∷ 0 ∷ 4 ∷ 1 ∷ 1 ∷ 2 ∷ 1 ∷ 2 ∷ 1 ∷ 2 ∷ 1 ∷ 1 ∷ 2 ∷ 2 ∷ 1 ∷ []
+
+-- Job 2 falls asleep with a lock; its processor passes over it, and it can't lock (26). Job 1 isn't asleep (27). It waits for the sleeper's lock, which
+-- makes the sleeper inherit, but not run; a waiting job can't sleep (14). Job 2, awakened, runs; nobody is woken by that. Its finish wakes job 1.
+unfoldable pub sleepLines : List Line
+sleepLines =
+    event 1 2 0 (done 0)
+    ∷ event 2 2 1 granted
+    ∷ event 8 2 0 (done 0)
+    ∷ runs 0 (Rank 0)
+    ∷ event 2 2 2 (refused 26)
+    ∷ event 1 1 0 (done 0)
+    ∷ event 9 1 0 (refused 27)
+    ∷ event 3 1 1 (waits 2 1 1)
+    ∷ inherits 2 (Rank 1)
+    ∷ runs 0 (Rank 0)
+    ∷ event 8 1 0 (refused 14)
+    ∷ event 9 2 0 (done 0)
+    ∷ runs 0 (Rank 2)
+    ∷ event 5 2 0 (done 1)
+    ∷ []
+
+pub sleep-answers : (readTable sleepTable .refusal ≡ 0) × (replay (readTable sleepTable .state) sleepLines ≡ sleepLines)
+unfolding sleepLines replay
+    every least firstNonzero mapped member with without first trailingZeros ones
+    mark keptIn dropMarks activate await grant release fallAsleep awaken endRun
+    processorsFit declarationsFit aboveIdle locksFit oneLockEach writersAlone waitsFit marksFit certifiesFit sleepersFit wellFormed
+    headerRefusal lengthRefusal processorByteRefusal entryRefusal entriesRefusal tableRefusal
+    processorsOf withRight declaredIn tableState readTable
+    weight othersKey objectKey lowestKeyBy namedKey reason wakeable R.inheritedRank runningRank
+    allCertified eventRefusal refusal jobRefusal processorRefusal requestMeeting woken wake accepted step askInheritedRank askRunning
+sleep-answers = (refl, refl)
+
+-- Job 1 starts, reads object 2 and falls asleep; job 2 starts.
+abbrev pub sleepEvents : List Event
+sleepEvents =
+    record { kind = 1; rank = 1; object = 0 }
+    ∷ record { kind = 2; rank = 1; object = 2 }
+    ∷ record { kind = 8; rank = 1; object = 0 }
+    ∷ record { kind = 1; rank = 2; object = 0 }
+    ∷ []
+
+abbrev pub slept : State
+slept = stateAt next label (readTable sleepTable .state) sleepEvents 4
+
+-- After these events of a fresh state of version 1 the only processor runs job 2. Its request for a read lock on object 2 waits for the sleeper's lock there,
+-- but by the old rule it is granted: nobody writes the object. So the equality needs its condition (`one-processor`).
+pub asleep-differs : (slept .counts .version ≡ 1) × (slept .counts .processors ≡ 1) × (askRunning slept 0 ≡ Rank 2)
+    × (paper (step slept 2 2 2 .answer) ≡ waits 1 2 3) × (paper (oldRequest slept read 2 2 .answer) ≡ granted)
+unfolding every least firstNonzero mapped member with without first trailingZeros ones
+    mark keptIn dropMarks activate await grant release fallAsleep awaken endRun
+    processorsFit declarationsFit aboveIdle locksFit oneLockEach writersAlone waitsFit marksFit certifiesFit sleepersFit wellFormed
+    headerRefusal lengthRefusal processorByteRefusal entryRefusal entriesRefusal tableRefusal
+    processorsOf withRight declaredIn tableState readTable
+    weight oldWeight othersKey objectKey lowestKeyBy namedKey reason wakeable R.inheritedRank runningRank
+    allCertified eventRefusal refusal processorRefusal requestMeeting woken wake accepted step askRunning
+asleep-differs = (refl, refl, refl, refl, refl)

@@ -1,5 +1,5 @@
 -- Promises.antt states what is promised of the manager as a whole, in the terms of Terms.antt; the files between the two prove it.
--- Example.antt has the example of document 01, and one of version 2.
+-- Example.antt has the example of document 01, one of version 2, and one of jobs that sleep.
 pub mod Terms
 pub mod Weights
 pub mod View
@@ -7,6 +7,7 @@ pub mod Frames
 pub mod LockModes
 pub mod Waking
 pub mod Requests
+pub mod Sleeping
 pub mod Steps
 pub mod ReachedStates
 pub mod OldRule

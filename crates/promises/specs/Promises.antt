@@ -1,9 +1,9 @@
 -- The promises about the manager as a whole: demand 3, well-formed states, granting and naming, no second wake-up, the old rule on one processor,
--- nobody by the table, and write locks that stay, for tables of both versions, but the old rule for version 1; what holds of version 2 alone;
--- and finished runs as if one by one, for both. Their terms are in Terms.antt, for demand 3 in theory/specs/Words.antt, for write locks in
+-- sleepers that change no lock decision, nobody by the table, and write locks that stay, for tables of both versions, but the old rule for version 1;
+-- what holds of version 2 alone; and finished runs as if one by one, for both. Their terms are in Terms.antt, for demand 3 in theory/specs/Words.antt, for write locks in
 -- theory/specs/WriteLocks.antt and for finished runs in theory/specs/Arrows.antt; the files between Terms.antt and this one prove them.
 -- The sentences in quotes are document 01's, or where it says so 02's. Assumes nothing.
-use mathlib.Core.Path.{_≡_, refl, subst, ap}
+use mathlib.Core.Path.{_≡_, refl, sym, subst, ap, _∙_}
 use mathlib.Core.Logic.{_≢_, _↔_}
 use mathlib.Core.Bool.{true, false}
 use mathlib.Core.List.{List, [], _∷_}
@@ -15,7 +15,7 @@ use borrow.Author.Tests.{eqb-false, not-true}
 use Rattle.basics.specs.Choice.{between}
 use Rattle.ranks.specs.RankLaws.{first-empty}
 use Rattle.state.specs.declared.State.{State}
-use Rattle.state.specs.State.{mostJobs, write, isObject, declared, declaredAny, holds, isCertified, requestOf, isWaiting}
+use Rattle.state.specs.State.{mostJobs, write, isObject, declared, declaredAny, holds, isCertified, requestOf, isWaiting, withSleepers}
 use Rattle.state.specs.WellFormed.{wellFormed}
 use Rattle.state.specs.Facts.{Sized}
 use Rattle.state.specs.WellFormedFacts.{facts, facts-well-formed}
@@ -46,6 +46,8 @@ use Rattle.promises.specs.ReachedStates.{kept, fresh-facts, fresh-view, 
 use Rattle.promises.specs.Waking.{blocked-not-woken, nobody-left}
 use Rattle.promises.specs.Requests.{granted-exactly, waits-for}
 use Rattle.promises.specs.OldRule.{one-request}
+use Rattle.promises.specs.Sleeping.{answer-same, named-lock-same, inherited-rank-same}
+use Rattle.promises.specs.Example.{sleepTable, sleep-answers, sleepEvents, slept}
 use Rattle.promises.specs.LocksApart.{manages-version, moves-version, apart-version}
 use Rattle.promises.specs.HeldUp.{answer-certified, named-certified}
 use Rattle.promises.specs.NobodyAs65.{ceiling65, oldRequest65, step65, askInheritedRank65, askNamedLock65, askCeilings65, askRunning65}
@@ -125,13 +127,32 @@ nobody-to-wake {t} r = nobody-left t (no-waiting-request-passes r)
 -- "Equality with it is claimed for one state, reached from a fresh one by any events, and one request of the job that
 -- the only processor runs: the same grant or wait, the same named lock." A request is of kind 2, 3 or 7, and not refused, the fourth answer.
 -- 02, CR 6: "The old rule's equality is for version 1 alone." 02, CR 8: "Answers equal the old rule's where no more urgent holder sleeps."
--- That the condition is needed is `asleep-differs` (Example.antt).
+-- The condition is needed: in the state `slept`, which is reached, such a request is answered otherwise (`asleep-differs` in Example.antt).
 pub one-processor : {t : State} → Reached t → t .counts .version ≡ 1 → t .counts .processors ≡ 1
     → (e : Event) → isRequest (e .kind) ≡ true → value (rankReply (askRunning t 0)) 0 0 ≡ e .rank → NoSleeperAbove t (e .rank)
     → paper (outcomeOf t e .answer) .number ≢ 4
     → paper (outcomeOf t e .answer) ≡ paper (oldRequest t (modeOf (e .kind)) (e .rank) (e .object) .answer)
 one-processor {t} r first one e kind run above ok =
     ap (λ x. paper (x .answer)) (one-request t (kept r) first one (e .kind) (e .rank) (e .object) kind run above ok)
+
+pub slept-reached : Reached slept
+slept-reached = list-reached (readTable sleepTable .state) (table-reached sleepTable (sleep-answers .0)) sleepEvents 4
+
+-- ---- SLEEPING CHANGES NO LOCK DECISION
+-- 02, CR 8: of a sleeper, "its locks and inherited rank remain". Two states that differ only in who sleeps give an event of kinds 1 to 7 that neither
+-- refuses the same answer: a request is granted in both, or waits in both with the same named lock and reason, and the same job is woken, or nobody.
+pub sleeping-decides-nothing : (s : State) (sleepers : ℕ) (e : Event) → e .kind ≤ 7
+    → paper (outcomeOf s e .answer) .number ≢ 4 → paper (outcomeOf (withSleepers s sleepers) e .answer) .number ≢ 4
+    → outcomeOf (withSleepers s sleepers) e .answer ≡ outcomeOf s e .answer
+sleeping-decides-nothing s sleepers e = answer-same s sleepers (e .kind) (e .rank) (e .object)
+
+-- Where both are well formed, they give the same answers to the questions for a job's named lock and its inherited rank.
+module _ (s : State) (sleepers : ℕ) (well : wellFormed s ≡ true) (well-too : wellFormed (withSleepers s sleepers) ≡ true) where
+  pub sleeping-names-nothing : (j : ℕ) → askNamedLock (withSleepers s sleepers) j ≡ askNamedLock s j
+  sleeping-names-nothing = named-lock-same s sleepers (well-too ∙ sym well)
+
+  pub sleeping-inherits-nothing : (j : ℕ) → askInheritedRank (withSleepers s sleepers) j ≡ askInheritedRank s j
+  sleeping-inherits-nothing = inherited-rank-same s sleepers (well-too ∙ sym well)
 
 -- ---- NOBODY IS ONE PAST THE LAST RANK
 -- 02, CR 4, of any well-formed state, handed in or reached. The rule with 65 for nobody, which stood before, is in NobodyAs65.antt:

@@ -44,19 +44,20 @@ request-stopped : (s : State) (m r o : ℕ) → passes s r ≡ false
 unfolding requestMeeting
 request-stopped s m r o e = (simp e, simp e, simp e)
 
-module _ (s : State) (z : Sized s) (w : wellFormed s ≡ true) (k r o : ℕ) (kind : isRequest k ≡ true) (ok : paper (step s k r o .answer) .number ≢ 4) where
-  none-refuses : refusal s k r o ≡ 0
-  none-refuses = go (refusal s k r o) refl
-    where
-      go : (n : ℕ) → refusal s k r o ≡ n → n ≡ 0
-      go zero e = refl
-      go (suc n) e = absurd (ok (refused-number s k r o n e))
+-- an event of any kind that is not answered refused
+pub none-refuses : (s : State) (k r o : ℕ) → paper (step s k r o .answer) .number ≢ 4 → refusal s k r o ≡ 0
+none-refuses s k r o ok = go (refusal s k r o) refl
+  where
+    go : (n : ℕ) → refusal s k r o ≡ n → n ≡ 0
+    go zero e = refl
+    go (suc n) e = absurd (ok (refused-number s k r o n e))
 
+module _ (s : State) (z : Sized s) (w : wellFormed s ≡ true) (k r o : ℕ) (kind : isRequest k ≡ true) (ok : paper (step s k r o .answer) .number ≢ 4) where
   pub rank-fits : r ≤ mostJobs
-  rank-fits = omega (arith, not-refused s k r o none-refuses .rank, facts s z w .counts .jobs)
+  rank-fits = omega (arith, not-refused s k r o (none-refuses s k r o ok) .rank, facts s z w .counts .jobs)
 
   answer-is : answerOf s (modeOf k) r o ≡ paper (step s k r o .answer)
-  answer-is = sym (ap (λ x. paper (x .answer)) (step-accepted s k r o none-refuses ∙ accepted-request s k r o kind))
+  answer-is = sym (ap (λ x. paper (x .answer)) (step-accepted s k r o (none-refuses s k r o ok) ∙ accepted-request s k r o kind))
 
   pub granted-exactly : (paper (step s k r o .answer) .number ≡ 1) ↔ MoreUrgentThanOthers s r
   granted-exactly = (

@@ -20,7 +20,7 @@ askInheritedRank s r = if eqb (jobRefusal s r) 0 then RankAnswer.Rank (R.inherit
 unfoldable pub askNamedLock : State → ℕ → NamedAnswer
 askNamedLock s r = if eqb (jobRefusal s r) 0 then NamedAnswer.Lock (namedHolder s r) (namedObject s r) else NamedAnswer.Refused (jobRefusal s r)
 
--- "for an object's two askCeilings 8, 11"
+-- "for an object's two ceilings 8, 11"
 unfoldable pub askCeilings : State → ℕ → CeilingsAnswer
 askCeilings s o =
     if eqb (objectRefusal s o) 0 then CeilingsAnswer.Ceilings (writeCeiling s o) (absoluteCeiling s o)
