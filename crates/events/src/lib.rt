@@ -274,7 +274,14 @@ fn unlock<'a>(
         ≡ E.perform (stateOf counts ps (now («may_read» .entry)) (now («may_write» .entry)) active (now (unlocked .entry)) sleeping (now (readers .entry)) (now (writers .entry)) (now (certified .entry)) (now (request .entry))) 4 rank object) ⌝ }
 {
     let number = unlock_refusal(
-        counts, active, sleeping, readers, writers, request, rank, object,
+        counts,
+        active,
+        sleeping,
+        readers,
+        writers,
+        request,
+        rank,
+        object,
     );
     if number != 0 {
         return Answer::Refused(number);
@@ -393,14 +400,15 @@ fn sleep_or_awaken(
         E.outcome r (stateOf counts ps mr mw active u (now (sleeping .exit)) rs ws cs (now (request .entry)))
         ≡ E.perform (stateOf counts ps mr mw active u (now (sleeping .entry)) rs ws cs (now (request .entry))) kind rank object) ⌝ }
 {
-    let number = sleep_refusal(counts, active, *sleeping, request, kind, rank, object);
+    let asleep = *sleeping;
+    let number = sleep_refusal(counts, active, asleep, request, kind, rank, object);
     if number != 0 {
         return Answer::Refused(number);
     }
     if kind == 8 {
-        *sleeping = ranks::with(*sleeping, rank);
+        *sleeping = ranks::with(asleep, rank);
     } else {
-        *sleeping = ranks::without(*sleeping, rank);
+        *sleeping = ranks::without(asleep, rank);
     }
     Answer::Done(0)
 }
@@ -486,9 +494,7 @@ pub fn perform<'a>(
             rank,
             object,
         ),
-        8 | 9 => sleep_or_awaken(
-            counts, *active, sleeping, request, kind, rank, object,
-        ),
+        8 | 9 => sleep_or_awaken(counts, *active, sleeping, request, kind, rank, object),
         0 | 10..=255 => Answer::Refused(9),
     }
 }

@@ -139,9 +139,9 @@ pub slept-reached : Reached slept
 slept-reached = list-reached (readTable sleepTable .state) (table-reached sleepTable (sleep-answers .0)) sleepEvents 4
 
 -- ---- SLEEPING CHANGES NO LOCK DECISION
--- 02, CR 8: of a sleeper, "its locks and inherited rank remain". Two states that differ only in who sleeps give an event of kinds 1 to 7 that neither
--- refuses the same answer: a request is granted in both, or waits in both with the same named lock and reason, and the same job is woken, or nobody.
-pub sleeping-decides-nothing : (s : State) (sleepers : ℕ) (e : Event) → e .kind ≤ 7
+-- 02, CR 8: of a sleeper, "its locks and inherited rank remain". Two states that differ only in who sleeps give an event that neither refuses the
+-- same answer: a request is granted in both, or waits in both with the same named lock and reason, and the same job is woken, or nobody.
+pub sleeping-decides-nothing : (s : State) (sleepers : ℕ) (e : Event)
     → paper (outcomeOf s e .answer) .number ≢ 4 → paper (outcomeOf (withSleepers s sleepers) e .answer) .number ≢ 4
     → outcomeOf (withSleepers s sleepers) e .answer ≡ outcomeOf s e .answer
 sleeping-decides-nothing s sleepers e = answer-same s sleepers (e .kind) (e .rank) (e .object)

@@ -3,10 +3,9 @@
 use mathlib.Core.Path.{_≡_, refl, sym, ap, ap₂, _∙_}
 use mathlib.Core.Logic.{_≢_}
 use mathlib.Core.Bool.{Bool, true, false}
-use Prim.Native.Nat.{ℕ, zero, suc, _≤_}
-use native.Mathlib.Omega.{arith}
+use Prim.Native.Nat.{ℕ}
 use lib.Dec.{eqb}
-use Rattle.basics.specs.Choice.{if_then_else_}
+use Rattle.basics.specs.Choice.{if_then_else_, between}
 use Rattle.ranks.specs.Ranks.{without}
 use Rattle.state.specs.declared.State.{State}
 use Rattle.state.specs.State.{withSleepers, await, grant, release, endRun}
@@ -16,11 +15,11 @@ use Rattle.weights.specs.Parts.{lowest-key-parts}
 use Rattle.rule.specs.Granting.{passesBelow, reason, namedKey, wakeable}
 use Rattle.rule.specs.Parts.{named-waits-parts, wakeable-parts}
 use Rattle.inheritance.specs.Parts.{inherited-rank-parts}
-use Rattle.refusals.specs.Refusals.{jobRefusalOf, jobRefusal}
+use Rattle.refusals.specs.Refusals.{isRequest, modeOf, jobRefusalOf, jobRefusal}
 use Rattle.events.specs.declared.Outcome.{Outcome}
-use Rattle.events.specs.declared.Answer.the-variants.{Granted, Waits, Done}
+use Rattle.events.specs.declared.Answer.the-variants.{Granted, Waits, Done, Refused}
 use Rattle.events.specs.Answers.{paper}
-use Rattle.events.specs.Events.{outcome, requestMeeting, request, wake, accepted}
+use Rattle.events.specs.Events.{outcome, start, requestMeeting, request, wake, unlock, finish, sleepOrAwaken, accepted}
 use Rattle.manager.specs.Step.{step, step-accepted}
 use Rattle.questions.specs.declared.RankAnswer.{RankAnswer}
 use Rattle.questions.specs.declared.NamedAnswer.{NamedAnswer}
@@ -55,23 +54,33 @@ module _ (s : State) (z : ℕ) where
 
 -- ---- events
 
-accepted-same : (s : State) (z k r o : ℕ) → k ≤ 7 → accepted (withSleepers s z) k r o .answer ≡ accepted s k r o .answer
+accepted-same : (s : State) (z k r o : ℕ) → accepted (withSleepers s z) k r o .answer ≡ accepted s k r o .answer
 unfolding accepted wake release endRun
-accepted-same s z zero r o small = refl
-accepted-same s z (suc zero) r o small = refl
-accepted-same s z (suc (suc zero)) r o small = request-same s z _ r o
-accepted-same s z (suc (suc (suc zero))) r o small = request-same s z _ r o
-accepted-same s z (suc (suc (suc (suc zero)))) r o small = ap Done (wakeable-same (release s r o) z)
-accepted-same s z (suc (suc (suc (suc (suc zero))))) r o small = ap Done (wakeable-same (endRun s r) (without z r))
-accepted-same s z (suc (suc (suc (suc (suc (suc zero)))))) r o small = ap Done (wakeable-same (endRun s r) (without z r))
-accepted-same s z (suc (suc (suc (suc (suc (suc (suc zero))))))) r o small = request-same s z _ r o
-accepted-same s z (suc (suc (suc (suc (suc (suc (suc (suc k)))))))) r o small = absurd (omega arith)
+accepted-same s z k r o = go (eqb k 1) (isRequest k) (eqb k 4) (between 5 6 k) (between 8 9 k)
+  where
+    by-kind : State → (starts asks unlocks ends sleeps : Bool) → Outcome
+    by-kind t starts asks unlocks ends sleeps =
+        if starts then start t r else
+        if asks then request t (modeOf k) r o else
+        if unlocks then unlock t r o else
+        if ends then finish t r else
+        if sleeps then sleepOrAwaken t k r else
+        outcome (Refused 9) t
 
-pub answer-same : (s : State) (z k r o : ℕ) → k ≤ 7 → paper (step s k r o .answer) .number ≢ 4 → paper (step (withSleepers s z) k r o .answer) .number ≢ 4
+    go : (starts asks unlocks ends sleeps : Bool)
+        → by-kind (withSleepers s z) starts asks unlocks ends sleeps .answer ≡ by-kind s starts asks unlocks ends sleeps .answer
+    go true asks unlocks ends sleeps = refl
+    go false true unlocks ends sleeps = request-same s z (modeOf k) r o
+    go false false true ends sleeps = ap Done (wakeable-same (release s r o) z)
+    go false false false true sleeps = ap Done (wakeable-same (endRun s r) (without z r))
+    go false false false false true = refl
+    go false false false false false = refl
+
+pub answer-same : (s : State) (z k r o : ℕ) → paper (step s k r o .answer) .number ≢ 4 → paper (step (withSleepers s z) k r o .answer) .number ≢ 4
     → step (withSleepers s z) k r o .answer ≡ step s k r o .answer
-answer-same s z k r o small ok ok-too =
+answer-same s z k r o ok ok-too =
     ap (λ (x : Outcome). x .answer) (step-accepted (withSleepers s z) k r o (none-refuses (withSleepers s z) k r o ok-too))
-    ∙ accepted-same s z k r o small
+    ∙ accepted-same s z k r o
     ∙ sym (ap (λ (x : Outcome). x .answer) (step-accepted s k r o (none-refuses s k r o ok)))
 
 -- ---- questions

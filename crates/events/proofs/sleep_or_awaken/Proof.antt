@@ -35,20 +35,20 @@ sleep-refusal-requires c κs = search needs
 returns : tie.Need-returns
 returns c =
     let a = c .before .before .before .args in
-    λ u ps mr mw rs ws cs. L.perform-refused (whole ((c .before .before .before)) u ps mr mw rs ws cs) (a .kind) (a .rank) (a .object) (c .before .sleep-refusal .result) (c .before .sleep-refusal .ensures u ps mr mw rs ws cs) (c .if1 .taken)
+    λ u ps mr mw rs ws cs. L.perform-refused (whole (((c .before .before .before))) u ps mr mw rs ws cs) (a .kind) (a .rank) (a .object) (c .before .sleep-refusal .result) (c .before .sleep-refusal .ensures u ps mr mw rs ws cs) (c .if1 .taken)
 
 with-requires : tie.Need-with-requires
-with-requires c κs = numbers ((c .before .before .before .before)) (sym (c .before .before .sleep-refusal .ensures 0 [] [] [] [] [] []) ∙ c .before .if1 .left)
+with-requires c κs = numbers (((c .before .before .before .before))) (sym (c .before .before .sleep-refusal .ensures 0 [] [] [] [] [] []) ∙ c .before .if1 .left)
 
 without-requires : tie.Need-without-requires
-without-requires c κs = numbers ((c .before .before .before .before)) (sym (c .before .before .sleep-refusal .ensures 0 [] [] [] [] [] []) ∙ c .before .if1 .left)
+without-requires c κs = numbers (((c .before .before .before .before))) (sym (c .before .before .sleep-refusal .ensures 0 [] [] [] [] [] []) ∙ c .before .if1 .left)
 
 returns-2 : tie.Need-returns-2
 unfolding fallAsleep
 returns-2 c =
     let a = c .before .before .before .before .before .args in
     λ u ps mr mw rs ws cs.
-    let s = whole ((c .before .before .before .before .before)) u ps mr mw rs ws cs in
+    let s = whole (((c .before .before .before .before .before))) u ps mr mw rs ws cs in
     ap (λ (v : ℕ). outcome (Done 0) (stateOf (a .counts) ps mr mw (a .active) u v rs ws cs (now (a .request)))) (c .with .ensures)
     ∙ sym (L.perform-accepted s (a .kind) (a .rank) (a .object) (sym (c .before .before .before .sleep-refusal .ensures u ps mr mw rs ws cs) ∙ c .before .before .if1 .left)
     ∙ L.accepted-sleep s (a .kind) (a .rank) (a .object) (c .before .before .before .before .before .pre .1) (c .before .before .before .before .before .pre .2)
@@ -59,7 +59,7 @@ unfolding awaken
 returns-3 c =
     let a = c .before .before .before .before .before .args in
     λ u ps mr mw rs ws cs.
-    let s = whole ((c .before .before .before .before .before)) u ps mr mw rs ws cs in
+    let s = whole (((c .before .before .before .before .before))) u ps mr mw rs ws cs in
     ap (λ (v : ℕ). outcome (Done 0) (stateOf (a .counts) ps mr mw (a .active) u v rs ws cs (now (a .request)))) (c .without .ensures)
     ∙ sym (L.perform-accepted s (a .kind) (a .rank) (a .object) (sym (c .before .before .before .sleep-refusal .ensures u ps mr mw rs ws cs) ∙ c .before .before .if1 .left)
     ∙ L.accepted-sleep s (a .kind) (a .rank) (a .object) (c .before .before .before .before .before .pre .1) (c .before .before .before .before .before .pre .2)
