@@ -14,7 +14,7 @@ use page::PageAnswer;
 use state::State;
 use table_writer::Written;
 
-// The kind of event that the letter stands for: S R W U F A C, and 10 for others.
+// The kind of event that the letter stands for: S R W U F A C Z V, and 10 for others.
 fn kind_of(letter: u8) -> u8 {
     match letter {
         b'S' => 1,
@@ -24,6 +24,8 @@ fn kind_of(letter: u8) -> u8 {
         b'F' => 5,
         b'A' => 6,
         b'C' => 7,
+        b'Z' => 8,
+        b'V' => 9,
         _ => 10,
     }
 }
@@ -141,7 +143,7 @@ fn request_of(letter: u8, object: u8) -> u16 {
     }
 }
 
-// A change of a job: + makes it active, r and w give it a read lock and a write lock on the object, q, v and m have it wait to read, write and certify it.
+// A change of a job: + makes it active, z asleep, r and w give it a read lock and a write lock on the object, q, v and m have it wait to read, write and certify it.
 fn change_job(state: State, letter: u8, rank: u8, object: u8) -> State {
     let mut next = state;
     if rank == 0 {
@@ -152,6 +154,10 @@ fn change_job(state: State, letter: u8, rank: u8, object: u8) -> State {
     }
     if letter == b'+' {
         next.active = ranks::with(next.active, rank);
+        return next;
+    }
+    if letter == b'z' {
+        next.sleeping = ranks::with(next.sleeping, rank);
         return next;
     }
     if object == 0 {
@@ -206,7 +212,9 @@ fn run_step(bytes: &[u8], state: State, letter: u8, rank: u8, object: u8) -> Sta
         b'G' => make_events(state, rank, object),
         b'h' => show_holders(state),
         b'n' | b'i' | b'p' | b'c' => ask(state, letter, rank, object),
-        b'+' | b'r' | b'w' | b'q' | b'v' | b'm' => return change_job(state, letter, rank, object),
+        b'+' | b'z' | b'r' | b'w' | b'q' | b'v' | b'm' => {
+            return change_job(state, letter, rank, object);
+        }
         b'k' | b'e' => return change_state(state, letter, rank, object),
         _ => return play(state, letter, rank, object),
     }
