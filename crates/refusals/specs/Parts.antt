@@ -171,31 +171,29 @@ certify-first-some s k r e = go (eqb (s .counts .version) 1) refl (eqb k 5) e
     go false q false t = absurd (clash refl t)
     go false q true t = ap (λ (c : Bool). 25 if not c else 0) (sym (all-certified-is s r (eqb-false (s .counts .version) 1 q)))
 
-pub finish-refusal : (s : State) (k r o : ℕ) → 5 ≤ k → k ≤ 6
-    → eventRefusal s k r o
-    ≡ (10 if not (isRank s r) else 11 if not (eqb o 0) else 13 if not (isActive s r) else 14 if eqb k 5 && isWaiting s r else
-    26 if eqb k 5 && isSleeping s r else 25 if eqb k 5 && not (allCertified s r) else 0)
-unfolding eventRefusal
-finish-refusal s k r o low high = elim (ℕ-discrete k 5) [
-  | yes e ↦ subst (λ (n : ℕ). eventRefusal s n r o ≡ by n) (sym e) refl
-  | no d ↦ (let e : k ≡ 6 = omega arith in subst (λ (n : ℕ). eventRefusal s n r o ≡ by n) (sym e) refl)
+-- what holds of two kinds, one behind the other, holds of each
+either-kind : (P : ℕ → Type 0) (a k : ℕ) → a ≤ k → k ≤ a + 1 → P a → P (a + 1) → P k
+either-kind P a k low high first second = elim (ℕ-discrete k a) [
+  | yes e ↦ subst P (sym e) first
+  | no d ↦ (let e : a + 1 ≡ k = omega arith in subst P e second)
 ]
-  where
-    by : ℕ → ℕ
-    by n = 10 if not (isRank s r) else 11 if not (eqb o 0) else 13 if not (isActive s r) else 14 if eqb n 5 && isWaiting s r else
-        26 if eqb n 5 && isSleeping s r else 25 if eqb n 5 && not (allCertified s r) else 0
+
+-- of kind 5, a finish, or 6, an abandonment
+abbrev finishRefusal : State → ℕ → ℕ → ℕ → ℕ
+finishRefusal s k r o =
+    10 if not (isRank s r) else 11 if not (eqb o 0) else 13 if not (isActive s r) else 14 if eqb k 5 && isWaiting s r else
+    26 if eqb k 5 && isSleeping s r else 25 if eqb k 5 && not (allCertified s r) else 0
+
+pub finish-refusal : (s : State) (k r o : ℕ) → 5 ≤ k → k ≤ 6 → eventRefusal s k r o ≡ finishRefusal s k r o
+unfolding eventRefusal
+finish-refusal s k r o low high = either-kind (λ (n : ℕ). eventRefusal s n r o ≡ finishRefusal s n r o) 5 k low high refl refl
 
 -- of kind 8, a job that falls asleep, or 9, one that is awakened
-pub sleep-refusal : (s : State) (k r o : ℕ) → 8 ≤ k → k ≤ 9
-    → eventRefusal s k r o
-    ≡ (10 if not (isRank s r) else 11 if not (eqb o 0) else 13 if not (isActive s r) else 14 if eqb k 8 && isWaiting s r else
-    26 if eqb k 8 && isSleeping s r else 27 if eqb k 9 && not (isSleeping s r) else 0)
+abbrev sleepRefusal : State → ℕ → ℕ → ℕ → ℕ
+sleepRefusal s k r o =
+    10 if not (isRank s r) else 11 if not (eqb o 0) else 13 if not (isActive s r) else 14 if eqb k 8 && isWaiting s r else
+    26 if eqb k 8 && isSleeping s r else 27 if eqb k 9 && not (isSleeping s r) else 0
+
+pub sleep-refusal : (s : State) (k r o : ℕ) → 8 ≤ k → k ≤ 9 → eventRefusal s k r o ≡ sleepRefusal s k r o
 unfolding eventRefusal
-sleep-refusal s k r o low high = elim (ℕ-discrete k 8) [
-  | yes e ↦ subst (λ (n : ℕ). eventRefusal s n r o ≡ by n) (sym e) refl
-  | no d ↦ (let e : k ≡ 9 = omega arith in subst (λ (n : ℕ). eventRefusal s n r o ≡ by n) (sym e) refl)
-]
-  where
-    by : ℕ → ℕ
-    by n = 10 if not (isRank s r) else 11 if not (eqb o 0) else 13 if not (isActive s r) else 14 if eqb n 8 && isWaiting s r else
-        26 if eqb n 8 && isSleeping s r else 27 if eqb n 9 && not (isSleeping s r) else 0
+sleep-refusal s k r o low high = either-kind (λ (n : ℕ). eventRefusal s n r o ≡ sleepRefusal s n r o) 8 k low high refl refl
