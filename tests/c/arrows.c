@@ -66,7 +66,7 @@ static int mode_of(int kind)
     return kind == VONGSELIK_READ_LOCK ? 1 : kind == VONGSELIK_WRITE_LOCK ? 2 : 3;
 }
 
-/* An event that was answered done. */
+/* An event that was answered done. A sleep and a wake neither release nor grant. */
 static void note_done(event e, int woken)
 {
     if (e.kind == VONGSELIK_START) {
@@ -74,7 +74,7 @@ static void note_done(event e, int woken)
         current[e.rank] = run_count++;
     } else if (e.kind == VONGSELIK_UNLOCK) {
         release(e.rank, e.object);
-    } else {
+    } else if (e.kind == VONGSELIK_FINISH || e.kind == VONGSELIK_ABANDON) {
         release(e.rank, 0);
         runs[current[e.rank]].finished = e.kind == VONGSELIK_FINISH;
         current[e.rank] = NOT_YET;

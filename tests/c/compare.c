@@ -23,7 +23,8 @@
 static void compare_names(void)
 {
     static const int kinds[] = {
-        0, VONGSELIK_START, VONGSELIK_READ_LOCK, VONGSELIK_WRITE_LOCK, VONGSELIK_UNLOCK, VONGSELIK_FINISH, VONGSELIK_ABANDON, VONGSELIK_CERTIFY};
+        0, VONGSELIK_START, VONGSELIK_READ_LOCK, VONGSELIK_WRITE_LOCK, VONGSELIK_UNLOCK, VONGSELIK_FINISH, VONGSELIK_ABANDON, VONGSELIK_CERTIFY,
+        VONGSELIK_SLEEP, VONGSELIK_WAKE};
     static const int answers[] = {0, VONGSELIK_GRANTED, VONGSELIK_WAITS, VONGSELIK_DONE, VONGSELIK_REFUSED};
     static const int reasons[] = {0, VONGSELIK_CONFLICT, VONGSELIK_CEILING, VONGSELIK_CAP};
     static const int refusals[] = {
@@ -32,12 +33,12 @@ static void compare_names(void)
         VONGSELIK_UNKNOWN_KIND, VONGSELIK_RANK_OUT_OF_RANGE, VONGSELIK_OBJECT_OUT_OF_RANGE, VONGSELIK_ALREADY_ACTIVE, VONGSELIK_IDLE, VONGSELIK_WAITING,
         VONGSELIK_LOCK_AFTER_UNLOCK, VONGSELIK_NOT_DECLARED, VONGSELIK_ALREADY_HELD, VONGSELIK_NOT_HELD, VONGSELIK_NO_SUCH_PROCESSOR,
         VONGSELIK_BUFFER_TOO_SHORT, VONGSELIK_UNLOCK_OF_WRITE_LOCK, VONGSELIK_BUFFER_TOO_SHORT_FOR_PAGE, VONGSELIK_BUFFER_TOO_SHORT_FOR_EVENTS,
-        VONGSELIK_CERTIFY_WITHOUT_WRITE_LOCK, VONGSELIK_FINISH_WITHOUT_CERTIFY};
+        VONGSELIK_CERTIFY_WITHOUT_WRITE_LOCK, VONGSELIK_FINISH_WITHOUT_CERTIFY, VONGSELIK_ASLEEP, VONGSELIK_NOT_ASLEEP};
     int i;
-    for (i = 1; i <= 7; i++) check(kinds[i] == i, "a kind's number");
+    for (i = 1; i <= 9; i++) check(kinds[i] == i, "a kind's number");
     for (i = 1; i <= 4; i++) check(answers[i] == i, "an answer's number");
     for (i = 1; i <= 3; i++) check(reasons[i] == i, "a reason's number");
-    for (i = 0; i <= 25; i++) check(refusals[i] == i, "a refusal's number");
+    for (i = 0; i <= 27; i++) check(refusals[i] == i, "a refusal's number");
     check(VONGSELIK_MOST_JOBS == 64 && VONGSELIK_MOST_OBJECTS == 128 && VONGSELIK_MOST_PROCESSORS == 8, "a limit");
     check(VONGSELIK_LONGEST_TABLE == 10 + 64 + 3 * 8192 && VONGSELIK_LONGEST_PAGE == 64 * 21, "a limit");
 }
@@ -203,17 +204,18 @@ static size_t compare_page_in(const vongselik_state *s, const model *m, size_t s
 /* A line of the page, field by field, beside what the questions answer for an active job. */
 static void compare_line(const vongselik_state *s, uint8_t rank, const uint8_t *bytes)
 {
-    char line[22] = "", letter = 0;
+    char line[22] = "", letter = 0, expected;
     uint8_t runs = 0, inherited = 0, holder = 0, object = 0;
-    int fields, numbers[5] = {0, 0, 0, 0, 0}, waits = s->request[rank - 1] != 0;
+    int fields, numbers[5] = {0, 0, 0, 0, 0}, waits = s->request[rank - 1] != 0, sleeps = (int)(s->sleeping >> (rank - 1) & 1);
     memcpy(line, bytes, 21);
     fields = sscanf(line, "%d %d %c %d %d %d", &numbers[0], &numbers[1], &letter, &numbers[2], &numbers[3], &numbers[4]);
     vongselik_running(s, s->processor_of[rank - 1], &runs);
     vongselik_inherited_rank(s, rank, &inherited);
     vongselik_named_lock(s, rank, &holder, &object);
+    expected = runs == rank ? 'R' : waits ? 'W' : sleeps ? 'Z' : 'I';
     check(
-        fields == (holder ? 6 : 4) && numbers[0] == rank && numbers[1] == s->processor_of[rank - 1] && letter == (runs == rank ? 'R' : waits ? 'W' : 'I')
-            && numbers[2] == inherited && numbers[3] == holder && numbers[4] == object,
+        fields == (holder ? 6 : 4) && numbers[0] == rank && numbers[1] == s->processor_of[rank - 1] && letter == expected && numbers[2] == inherited
+            && numbers[3] == holder && numbers[4] == object,
         "a line of the page and the questions");
     if (waits && !holder) naming_nobody++;
 }
@@ -336,8 +338,8 @@ static void compare_cut(const list *l, size_t size, size_t room)
         answered = vongselik_events(&s, events, answers, room);
     else
         answered = vongselik_parts_events(
-            s.version, s.processors, s.jobs, s.objects, s.processor_of, s.may_read, s.may_write, &s.active, &s.unlocked, s.readers, s.writers,
-            s.certified, s.request, events, size, answers, room);
+            s.version, s.processors, s.jobs, s.objects, s.processor_of, s.may_read, s.may_write, &s.active, &s.unlocked, &s.sleeping, s.readers,
+            s.writers, s.certified, s.request, events, size, answers, room);
     check(
         answered == count && !memcmp(answers, expected, sizeof answers) && !memcmp(&s, &l->states[count], sizeof s)
             && !memcmp(events, l->events, sizeof events),

@@ -113,7 +113,7 @@ static void compare_large_load(const vongselik_state *s, const model *m, uint32_
 static vongselik_state idle(const vongselik_state *s)
 {
     vongselik_state other = *s;
-    other.active = other.unlocked = 0;
+    other.active = other.unlocked = other.sleeping = 0;
     memset(other.readers, 0, sizeof other.readers);
     memset(other.writers, 0, sizeof other.writers);
     memset(other.certified, 0, sizeof other.certified);

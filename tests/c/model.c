@@ -1,4 +1,4 @@
-/* The rule of document 01, with CR 1, CR 2, CR 4, CR 5 and CR 6 of document 02, written a second time: see model.h. */
+/* The rule of document 01, with CR 1, CR 2, CR 4, CR 5, CR 6 and CR 8 of document 02, written a second time: see model.h. */
 #include "model.h"
 
 #include <stdio.h>
@@ -31,6 +31,7 @@ void model_from(model *m, const vongselik_state *s)
     m->objects = s->objects;
     spread(m->active, s->active);
     spread(m->unlocked, s->unlocked);
+    spread(m->sleeping, s->sleeping);
     for (r = 1; r <= 64; r++) {
         m->processor[r] = s->processor_of[r - 1];
         m->wants[r] = s->request[r - 1] / 256;
@@ -105,10 +106,11 @@ static int absolute_ceiling(const model *m, int object)
 
 static int job_fits(const model *m, int r)
 {
-    if (r > m->jobs) return !m->active[r] && !m->unlocked[r] && !waits(m, r);
+    if (r > m->jobs) return !m->active[r] && !m->unlocked[r] && !m->sleeping[r] && !waits(m, r);
     if (m->processor[r] >= m->processors) return 0;
-    if (!m->active[r] && (m->unlocked[r] || waits(m, r))) return 0;
+    if (!m->active[r] && (m->unlocked[r] || m->sleeping[r] || waits(m, r))) return 0;
     if (!waits(m, r)) return 1;
+    if (m->sleeping[r]) return 0;
     if (m->unlocked[r] || m->wants[r] < READ || m->wants[r] > (m->version == 1 ? WRITE : CERTIFY)) return 0;
     if (m->wanted_object[r] < 1 || m->wanted_object[r] > m->objects) return 0;
     if (m->wants[r] == CERTIFY && !m->writes[m->wanted_object[r]][r]) return 0;
@@ -220,6 +222,7 @@ static void give(model *m, int mode, int rank, int object)
     }
 }
 
+/* Gives the most urgent waiting job whose request passes its lock. Answers its rank, 0 if there is none. */
 static int wake(model *m)
 {
     int r;
@@ -239,16 +242,24 @@ static int asked_mode(int kind)
     return kind == VONGSELIK_READ_LOCK ? READ : kind == VONGSELIK_WRITE_LOCK ? WRITE : kind == VONGSELIK_CERTIFY ? CERTIFY : 0;
 }
 
+/* Whether the event is one for a job that neither waits nor sleeps: kinds 2 to 5, 7 and 8. */
+static int needs_awake(int kind)
+{
+    return kind != VONGSELIK_START && kind != VONGSELIK_ABANDON && kind != VONGSELIK_WAKE;
+}
+
 static int event_refusal(const model *m, int kind, int rank, int object)
 {
     int mode = asked_mode(kind), on_object = mode || kind == VONGSELIK_UNLOCK;
     if (!model_well_formed(m)) return 8;
-    if (kind < 1 || kind > 7 || (kind == VONGSELIK_CERTIFY && m->version == 1)) return 9;
+    if (kind < 1 || kind > 9 || (kind == VONGSELIK_CERTIFY && m->version == 1)) return 9;
     if (rank < 1 || rank > m->jobs) return 10;
     if (on_object ? object < 1 || object > m->objects : object != 0) return 11;
     if (kind == VONGSELIK_START && m->active[rank]) return 12;
     if (kind != VONGSELIK_START && !m->active[rank]) return 13;
-    if (kind != VONGSELIK_START && kind != VONGSELIK_ABANDON && waits(m, rank)) return 14;
+    if (needs_awake(kind) && waits(m, rank)) return 14;
+    if (needs_awake(kind) && m->sleeping[rank]) return 26;
+    if (kind == VONGSELIK_WAKE && !m->sleeping[rank]) return 27;
     if (kind == VONGSELIK_FINISH && m->version == 2 && holds_uncertified(m, rank)) return 25;
     if (mode && m->unlocked[rank]) return 15;
     if (mode && !may(m, mode, rank, object)) return 16;
@@ -276,10 +287,16 @@ static vongselik_answer request(model *m, int mode, int rank, int object)
     return a;
 }
 
+static void unlock(model *m, int rank, int object)
+{
+    m->reads[object][rank] = 0;
+    m->unlocked[rank] = 1;
+}
+
 static void end_run(model *m, int rank)
 {
     int o;
-    m->active[rank] = m->unlocked[rank] = 0;
+    m->active[rank] = m->unlocked[rank] = m->sleeping[rank] = 0;
     m->wants[rank] = m->wanted_object[rank] = 0;
     for (o = 1; o <= 128; o++) {
         if (m->writes[o][rank]) m->certified[o] = 0;
@@ -297,15 +314,12 @@ vongselik_answer model_event(model *m, int kind, int rank, int object)
         return a;
     }
     if (asked_mode(kind)) return request(m, asked_mode(kind), rank, object);
-    if (kind == VONGSELIK_START) {
-        m->active[rank] = 1;
-        return a;
-    }
-    if (kind == VONGSELIK_UNLOCK) {
-        m->reads[object][rank] = 0;
-        m->unlocked[rank] = 1;
-    } else {
-        end_run(m, rank);
+    switch (kind) {
+    case VONGSELIK_START: m->active[rank] = 1; return a;
+    case VONGSELIK_SLEEP: m->sleeping[rank] = 1; return a;
+    case VONGSELIK_WAKE: m->sleeping[rank] = 0; return a;
+    case VONGSELIK_UNLOCK: unlock(m, rank, object); break;
+    default: end_run(m, rank); break;
     }
     a.woken = (uint8_t)wake(m);
     return a;
@@ -353,7 +367,7 @@ static int running(const model *m, const names *n, int processor)
 {
     int r, best = 1000, rank = 0;
     for (r = 1; r <= m->jobs; r++)
-        if (m->processor[r] == processor && m->active[r] && !waits(m, r) && inherited(n, r) < best) {
+        if (m->processor[r] == processor && m->active[r] && !waits(m, r) && !m->sleeping[r] && inherited(n, r) < best) {
             best = inherited(n, r);
             rank = r;
         }
@@ -407,6 +421,7 @@ static int lay_line(const model *m, const names *n, int rank, char *line)
     char holder[4] = "", object[4] = "", letter = 'I';
     if (running(m, n, m->processor[rank]) == rank) letter = 'R';
     if (waits(m, rank)) letter = 'W';
+    if (m->sleeping[rank]) letter = 'Z';
     if (n->by[rank].holder) {
         sprintf(holder, "%d", n->by[rank].holder);
         sprintf(object, "%d", n->by[rank].object);

@@ -1,5 +1,5 @@
-/* The rule of document 01, with CR 1, CR 2, CR 4, CR 5 and CR 6 of document 02, written a second time, as plainly as possible: sets are tables of flags,
- * loops go over every job and object. */
+/* The rule of document 01, with CR 1, CR 2, CR 4, CR 5, CR 6 and CR 8 of document 02, written a second time, as plainly as possible: sets are tables of
+ * flags, loops go over every job and object. */
 #ifndef MODEL_H
 #define MODEL_H
 
@@ -13,7 +13,7 @@ typedef struct model {
     int version, processors, jobs, objects;
     int processor[65];
     char may_read[129][65], may_write[129][65];
-    char active[65], unlocked[65];
+    char active[65], unlocked[65], sleeping[65];
     char reads[129][65], writes[129][65];
     char certified[129]; /* whether the write lock on the object is a certify lock */
     int wants[65], wanted_object[65]; /* wants: 0 nothing, else the mode of the request, which may be a wrong one in a state that was handed in */

@@ -14,7 +14,7 @@ static unsigned long events[3], handed_in[3], well_formed_in[3];
 static unsigned long granted[3][4], woken[3][4], waited[3][4][4];
 
 /* How often an event was refused, by version and number: all of them, and those that ask to certify. */
-static unsigned long refused[3][26], certify_refused[3][26];
+static unsigned long refused[3][28], certify_refused[3][28];
 
 /* Of version 2: how often a request named a lock on its own object, by its mode and that of the lock. */
 static unsigned long met[4][4];
