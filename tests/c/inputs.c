@@ -116,11 +116,21 @@ static int likely_object(const vongselik_state *s, int rank, int kind)
     return object_in(below(2) ? s->readers : s->writers, rank);
 }
 
-/* A kind that the rank may send, more often than not, or the given one. On version 2 write locks are often certified, in the place of a finish most often. */
+/* A kind from 1 to 9, seldom a certify on version 1, a sleep or a wake; or now and then any, with 0, 10 and 11 often. */
+static int any_kind(const vongselik_state *s)
+{
+    if (!below(20)) return below(below(2) ? 12 : 256);
+    if (!below(8)) return VONGSELIK_SLEEP + below(2);
+    return 1 + below(s->version == 2 || !below(8) ? 7 : 6);
+}
+
+/* A kind that the rank may send, more often than not, or the given one. Who sleeps is often woken, or abandoned. On version 2 write locks are often
+ * certified, in the place of a finish most often. */
 static int likely_kind(const vongselik_state *s, int rank, int kind)
 {
     int waits = s->request[rank - 1] != 0, to_certify = s->version == 2 && !waits && uncertified_object(s, rank);
     if (waits && below(2)) return VONGSELIK_FINISH + below(2);
+    if (s->sleeping >> (rank - 1) & 1 && below(4)) return below(8) ? VONGSELIK_WAKE : VONGSELIK_ABANDON;
     if (below(3)) {
         if (!(s->active >> (rank - 1) & 1)) return VONGSELIK_START;
         if (to_certify && below(3) == 0) return VONGSELIK_CERTIFY;
@@ -139,7 +149,7 @@ static int likely_rank(const vongselik_state *s)
 
 event any_event(const vongselik_state *s)
 {
-    int rank = likely_rank(s), kind = below(20) ? 1 + below(s->version == 2 || !below(8) ? 7 : 6) : below(256), object;
+    int rank = likely_rank(s), kind = any_kind(s), object;
     int known = rank >= 1 && rank <= 64;
     event e;
     if (known) kind = likely_kind(s, rank, kind);
@@ -178,6 +188,15 @@ static void strew_request(vongselik_state *s, int r)
     else if (below(2) && (right & ~s->writers[object]) >> r & 1) s->request[r] = (uint16_t)(mode * 256 + object + 1);
 }
 
+/* The ranks that have a request. */
+static uint64_t waiting(const vongselik_state *s)
+{
+    uint64_t set = 0;
+    int r;
+    for (r = 0; r < 64; r++) set |= (uint64_t)(s->request[r] != 0) << r;
+    return set;
+}
+
 void strew(vongselik_state *s)
 {
     int o, r, spaces = below(3) ? 1 : 1 + below(s->objects); /* how far apart the objects are at most that may be locked */
@@ -192,6 +211,7 @@ void strew(vongselik_state *s)
     for (o = below(spaces); o < s->objects; o += 1 + below(spaces)) strew_locks(s, o, holders);
     for (r = 0; r < s->jobs; r++)
         if ((s->active & ~s->unlocked) >> r & 1) strew_request(s, r);
+    s->sleeping = below(2) ? 0 : any_word() & s->active & ~waiting(s);
 }
 
 /* The index of an object: of any, of one in the table, or of one with a write lock if there is one in it. */
@@ -218,7 +238,7 @@ void mutate(vongselik_state *s)
 {
     int o = index_of_object(s), r = index_of_job(s, below(3) ? s->active & (s->may_read[o] | s->may_write[o]) : s->writers[o]);
     uint64_t bit = (uint64_t)1 << r;
-    switch (below(15)) {
+    switch (below(17)) {
     case 0: s->processors = (uint8_t)(below(2) ? below(12) : below(256)); break;
     case 1: s->jobs = (uint8_t)(below(2) ? s->jobs + 1 - 2 * below(2) : below(256)); break;
     case 2: s->objects = (uint8_t)(below(2) ? s->objects + 1 - 2 * below(2) : below(256)); break;
@@ -233,6 +253,8 @@ void mutate(vongselik_state *s)
     case 11: s->version = (uint8_t)(below(3) ? 3 - s->version : below(256)); break;
     case 12: s->version = (uint8_t)below(4); break;
     case 13: s->certified[o / 64] ^= (uint64_t)1 << o % 64; break;
+    case 14: s->sleeping ^= bit; break;
+    case 15: s->sleeping ^= (uint64_t)1 << index_of_job(s, below(2) ? waiting(s) : ~s->active); break;
     default: s->request[r] = 0; break;
     }
 }

@@ -29,11 +29,11 @@ size_t make_table(uint8_t *bytes);
 /* Changes some bytes, or cuts the bytes short; answers the new length. */
 size_t spoil_table(uint8_t *bytes, size_t size);
 
-/* A random event; more often than not of a kind that the job may send, an unlock of an object that it has locked, and a certify of one that it has
- * write-locked. */
+/* A random event; more often than not of a kind that the job may send, an unlock of an object that it has locked, a certify of one that it has
+ * write-locked, and a wake of a job that sleeps. */
 event any_event(const vongselik_state *s);
 
-/* Locks and requests strewn over the table, by and large well formed, though no events lead there. */
+/* Locks, requests and sleepers strewn over the table, by and large well formed, though no events lead there. */
 void strew(vongselik_state *s);
 
 /* One change somewhere in a state, which may then no longer be well formed. */
