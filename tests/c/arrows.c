@@ -11,7 +11,7 @@ enum { MOST_RUNS = 1000, MOST_LOCKS = 4000, NOT_YET = -1 };
 
 /* A run; its last grant is a moment. Moments are two for each event: first what it releases, then what it grants. */
 typedef struct {
-    int rank, finished, last_grant;
+    int rank, finished, last_grant, slept;
 } run;
 
 /* A lock that a run was granted: its object and mode, the moment of the grant, and the moment of the release of the lock that the run had there in the end,
@@ -31,8 +31,9 @@ static int current[256], asked_object[256], asked_mode[256];
 static unsigned char arrow[MOST_RUNS][MOST_RUNS];
 static int leading_to[MOST_RUNS];
 
-/* How many arrows there were by version, between runs of one job, and from a release to the woken grant of the same event; how many locks were replaced. */
-static unsigned long arrows_of[3], arrows_of_one_job, arrows_in_one_event, replaced;
+/* How many arrows there were by version, and of them from or to a run that slept; between runs of one job, and from a release to the woken grant of the same
+ * event; how many locks were replaced. */
+static unsigned long arrows_of[3], arrows_of_sleepers[3], arrows_of_one_job, arrows_in_one_event, replaced;
 
 /* ---- Events and answers */
 
@@ -70,10 +71,12 @@ static int mode_of(int kind)
 static void note_done(event e, int woken)
 {
     if (e.kind == VONGSELIK_START) {
-        runs[run_count] = (run){e.rank, 0, NOT_YET};
+        runs[run_count] = (run){e.rank, 0, NOT_YET, 0};
         current[e.rank] = run_count++;
     } else if (e.kind == VONGSELIK_UNLOCK) {
         release(e.rank, e.object);
+    } else if (e.kind == VONGSELIK_SLEEP) {
+        runs[current[e.rank]].slept = 1;
     } else if (e.kind == VONGSELIK_FINISH || e.kind == VONGSELIK_ABANDON) {
         release(e.rank, 0);
         runs[current[e.rank]].finished = e.kind == VONGSELIK_FINISH;
@@ -117,6 +120,7 @@ static void draw(const lock *a, const lock *b)
     arrow[a->run][b->run] = 1;
     leading_to[b->run]++;
     arrows_of[version]++;
+    if (runs[a->run].slept || runs[b->run].slept) arrows_of_sleepers[version]++;
     if (runs[a->run].rank == runs[b->run].rank) arrows_of_one_job++;
     if (a->released / 2 == b->granted / 2) arrows_in_one_event++;
 }
@@ -177,8 +181,9 @@ void check_arrows(void)
 
 void check_arrows_occurred(int tables)
 {
-    printf(
-        "%lu arrows between finished runs: %lu of version 1, %lu of version 2; %lu between runs of one job, %lu within one event; %lu locks replaced\n",
-        arrows_of[1] + arrows_of[2], arrows_of[1], arrows_of[2], arrows_of_one_job, arrows_in_one_event, replaced);
-    if (tables >= ENOUGH) check(arrows_of[1] && arrows_of[2] && arrows_of_one_job && arrows_in_one_event && replaced, "an arrow that has to occur does not");
+    printf("%lu arrows between finished runs: %lu of version 1, %lu of version 2; ", arrows_of[1] + arrows_of[2], arrows_of[1], arrows_of[2]);
+    printf("%lu and %lu of these with a run that slept; ", arrows_of_sleepers[1], arrows_of_sleepers[2]);
+    printf("%lu between runs of one job, %lu within one event; %lu locks replaced\n", arrows_of_one_job, arrows_in_one_event, replaced);
+    if (tables < ENOUGH) return;
+    check(arrows_of_sleepers[1] && arrows_of_sleepers[2] && arrows_of_one_job && arrows_in_one_event && replaced, "an arrow that has to occur does not");
 }

@@ -52,6 +52,14 @@ static void compare_nobody(void)
     for (i = 0; i < 3; i++) check(VONGSELIK_NOBODY(states + i) == ceilings[i], "nobody's ceiling by the number of jobs");
 }
 
+/* The state with no sleeping mark. */
+static model awakened(const model *m)
+{
+    model awake = *m;
+    memset(awake.sleeping, 0, sizeof awake.sleeping);
+    return awake;
+}
+
 /* ---- Tables */
 
 static void compare_reading(const uint8_t *bytes, size_t n, const vongselik_state *before)
@@ -154,6 +162,19 @@ static void check_nobody_occurred(int tables)
     if (tables >= ENOUGH) check(nobody_of_64 && nobody_of_fewer, "a ceiling that has to occur does not");
 }
 
+/* The question for the running job, of a processor of the table or now and then another. */
+static void compare_running(const vongselik_state *s, const model *m)
+{
+    uint8_t rank = 201;
+    int model_rank = 201, awake_rank = 201, processor = below(6) ? below(m->processors ? m->processors : 1) : below(256);
+    int refusal = model_running(m, processor, &model_rank);
+    int number = vongselik_running(s, (uint8_t)processor, &rank);
+    model awake = awakened(m);
+    check(number == refusal && rank == model_rank, "running");
+    model_running(&awake, processor, &awake_rank);
+    if (!refusal) count_running(s, model_rank, awake_rank);
+}
+
 static void compare_questions(const vongselik_state *s, const model *m, int all)
 {
     uint8_t a = 201, b = 202;
@@ -166,11 +187,7 @@ static void compare_questions(const vongselik_state *s, const model *m, int all)
     number = vongselik_named_lock(s, (uint8_t)rank, &a, &b);
     check(number == refusal && a == x && b == y, "named_lock");
     compare_ceilings(s, m, object);
-    if (!all) return;
-    x = 201, a = 201, object = below(6) ? below(m->processors ? m->processors : 1) : below(256);
-    refusal = model_running(m, object, &x);
-    number = vongselik_running(s, (uint8_t)object, &a);
-    check(number == refusal && a == x, "running");
+    if (all) compare_running(s, m);
 }
 
 /* ---- The state page */
@@ -178,9 +195,9 @@ static void compare_questions(const vongselik_state *s, const model *m, int all)
 /* The most that is lent for a page, the bytes before it and behind it, which nobody may write, and all of them. */
 enum { LENT = VONGSELIK_LONGEST_PAGE + 100, AROUND = 30, PAGE_ROOM = AROUND + LENT + AROUND };
 
-/* How many pages had no line, how many a line for each of 64 jobs, how many were refused by 22, and how many lines were of a waiting job that names
- * nobody. */
-static unsigned long empty_pages, longest_pages, short_buffers, naming_nobody;
+/* How many pages had no line, how many a line for each of 64 jobs, how many were refused by 22, how many lines were of a waiting job that names nobody, how
+ * many of a sleeper, and how many of one that inherits a more urgent rank. */
+static unsigned long empty_pages, longest_pages, short_buffers, naming_nobody, sleepers, inheriting_sleepers;
 
 /* The page in a buffer of this length, compared with the model: the answer, the length, each byte of the buffer and around it, and that the state is
  * as it was. Answers the model's length, 0 where it refuses. */
@@ -218,6 +235,8 @@ static void compare_line(const vongselik_state *s, uint8_t rank, const uint8_t *
             && numbers[3] == holder && numbers[4] == object,
         "a line of the page and the questions");
     if (waits && !holder) naming_nobody++;
+    if (sleeps) sleepers++;
+    if (sleeps && inherited < rank) inheriting_sleepers++;
 }
 
 /* The page of the state in a buffer that is longer, as long, one byte too short, of any length, and of none; and each of its lines. */
@@ -251,8 +270,10 @@ static void compare_full_page(const vongselik_state *reached)
 static void check_pages_occurred(int tables)
 {
     printf("state pages: %lu with no line, %lu with 64, %lu refused by 22; ", empty_pages, longest_pages, short_buffers);
-    printf("%lu lines of a waiting job that names nobody\n", naming_nobody);
-    if (tables >= ENOUGH) check(empty_pages && longest_pages && short_buffers && naming_nobody, "a page that has to occur does not");
+    printf("%lu lines of a waiting job that names nobody, %lu of a sleeper, ", naming_nobody, sleepers);
+    printf("%lu of one that inherits a rank\n", inheriting_sleepers);
+    if (tables < ENOUGH) return;
+    check(empty_pages && longest_pages && short_buffers && naming_nobody && sleepers && inheriting_sleepers, "a page that has to occur does not");
 }
 
 /* ---- Events */
@@ -268,6 +289,10 @@ static vongselik_answer compare_event(vongselik_state *s, model *m, event e)
     if (a.answer == VONGSELIK_REFUSED && memcmp(&before, s, sizeof before)) same = 0;
     check(same, "event");
     count_event(&before, e, b);
+    if (b.refusal == VONGSELIK_ASLEEP) {
+        model awake = awakened(m);
+        count_asleep(&before, model_event(&awake, e.kind, e.rank, e.object).refusal);
+    }
     return a;
 }
 
@@ -277,10 +302,11 @@ static vongselik_answer compare_event(vongselik_state *s, model *m, event e)
 static void compare_handed_in(const vongselik_state *handed)
 {
     vongselik_state s = *handed;
-    model m;
+    model m, awake;
     int i;
     model_from(&m, &s);
-    count_handed_in(&s, model_well_formed(&m));
+    awake = awakened(&m);
+    count_handed_in(&s, model_well_formed(&m), model_well_formed(&awake));
     compare_page(&s, &m);
     for (i = 0; i < 4; i++) {
         s = *handed;

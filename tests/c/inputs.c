@@ -105,6 +105,15 @@ static int working_object(const vongselik_state *s, int rank)
     return object_in(sets, rank);
 }
 
+/* Some object that the rank may write and that is certified; 0 if there is none. */
+static int certified_object(const vongselik_state *s, int rank)
+{
+    uint64_t sets[128];
+    int o;
+    for (o = 0; o < 128; o++) sets[o] = s->certified[o / 64] >> o % 64 & 1 ? s->may_write[o] : 0;
+    return object_in(sets, rank);
+}
+
 /* An object for which the rank may send an event of this kind, more often than not; 0 if there is none. */
 static int likely_object(const vongselik_state *s, int rank, int kind)
 {
@@ -112,7 +121,7 @@ static int likely_object(const vongselik_state *s, int rank, int kind)
     if (working) return working;
     if (kind == VONGSELIK_READ_LOCK) return object_in(s->may_read, rank);
     if (kind == VONGSELIK_WRITE_LOCK) return object_in(s->may_write, rank);
-    if (kind == VONGSELIK_CERTIFY && below(4)) return uncertified_object(s, rank);
+    if (kind == VONGSELIK_CERTIFY && below(4)) return below(8) ? uncertified_object(s, rank) : certified_object(s, rank);
     return object_in(below(2) ? s->readers : s->writers, rank);
 }
 
@@ -124,13 +133,14 @@ static int any_kind(const vongselik_state *s)
     return 1 + below(s->version == 2 || !below(8) ? 7 : 6);
 }
 
-/* A kind that the rank may send, more often than not, or the given one. Who sleeps is often woken, or abandoned. On version 2 write locks are often
- * certified, in the place of a finish most often. */
+/* A kind that the rank may send, more often than not, or the given one. A sleeper is most often woken; an unlock, a finish, an abandonment or, on version 2, a
+ * certify of one comes at times. On version 2 write locks are often certified, in the place of a finish most often. */
 static int likely_kind(const vongselik_state *s, int rank, int kind)
 {
-    int waits = s->request[rank - 1] != 0, to_certify = s->version == 2 && !waits && uncertified_object(s, rank);
+    int waits = s->request[rank - 1] != 0, sleeps = (int)(s->sleeping >> (rank - 1) & 1);
+    int to_certify = s->version == 2 && !waits && uncertified_object(s, rank);
     if (waits && below(2)) return VONGSELIK_FINISH + below(2);
-    if (s->sleeping >> (rank - 1) & 1 && below(4)) return below(8) ? VONGSELIK_WAKE : VONGSELIK_ABANDON;
+    if (sleeps && below(4)) return below(3) ? VONGSELIK_WAKE : VONGSELIK_UNLOCK + below(s->version == 2 ? 4 : 3);
     if (below(3)) {
         if (!(s->active >> (rank - 1) & 1)) return VONGSELIK_START;
         if (to_certify && below(3) == 0) return VONGSELIK_CERTIFY;
