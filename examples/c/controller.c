@@ -13,7 +13,7 @@ enum { PAGE_LINE = 21 };
 
 static const char *const job_name[] = {"nobody", "diverter", "camera", "scale", "totals"};
 static const char *const object_name[] = {"nothing", "gates", "image", "labels"};
-static const char *const kind_name[] = {"?", "start", "read-lock", "write-lock", "unlock", "finish", "abandon"};
+static const char *const kind_name[] = {"?", "start", "read-lock", "write-lock", "unlock", "finish", "abandon", "certify", "sleep", "wake"};
 static const char *const reason_name[] = {"?", "conflict", "ceiling", "cap"};
 
 /* Diverter and scale on processor 0, camera and totals on 1. The diverter writes the gates, scale and totals read them; the camera reads image and labels. */
@@ -27,16 +27,19 @@ typedef struct {
     uint8_t kind, rank, object;
 } step;
 
-/* The totals' read lock makes the camera wait; its unlock wakes the camera. The camera's lock makes the scale wait until the camera finishes.
- * The scale's lock makes the diverter wait, which is abandoned because the parcel has passed. The last step is one that the manager refuses. */
+/* The totals' read lock makes the camera wait; with its unlock the camera gets its lock. The camera sleeps while its shutter is open, and frees its processor
+ * for the totals. It keeps its lock, which makes the scale wait until the camera, awake again, finishes. The scale's lock makes the diverter wait, which is
+ * abandoned because the parcel has passed. The last step is one that the manager refuses. */
 static const step scenario[] = {
     {VONGSELIK_START, TOTALS, 0},
     {VONGSELIK_READ_LOCK, TOTALS, GATES},
     {VONGSELIK_START, CAMERA, 0},
     {VONGSELIK_READ_LOCK, CAMERA, IMAGE},
     {VONGSELIK_UNLOCK, TOTALS, GATES},
+    {VONGSELIK_SLEEP, CAMERA, 0},
     {VONGSELIK_START, SCALE, 0},
     {VONGSELIK_READ_LOCK, SCALE, GATES},
+    {VONGSELIK_WAKE, CAMERA, 0},
     {VONGSELIK_READ_LOCK, CAMERA, LABELS},
     {VONGSELIK_FINISH, CAMERA, 0},
     {VONGSELIK_START, DIVERTER, 0},
