@@ -52,14 +52,6 @@ static void compare_nobody(void)
     for (i = 0; i < 3; i++) check(VONGSELIK_NOBODY(states + i) == ceilings[i], "nobody's ceiling by the number of jobs");
 }
 
-/* The state with no sleeping mark. */
-static model awakened(const model *m)
-{
-    model awake = *m;
-    memset(awake.sleeping, 0, sizeof awake.sleeping);
-    return awake;
-}
-
 /* ---- Tables */
 
 static void compare_reading(const uint8_t *bytes, size_t n, const vongselik_state *before)
@@ -160,6 +152,14 @@ static void check_nobody_occurred(int tables)
 {
     printf("%lu ceilings of nobody: %lu with 64 jobs, %lu with fewer\n", nobody_of_64 + nobody_of_fewer, nobody_of_64, nobody_of_fewer);
     if (tables >= ENOUGH) check(nobody_of_64 && nobody_of_fewer, "a ceiling that has to occur does not");
+}
+
+/* The state with no sleeping mark. */
+static model awakened(const model *m)
+{
+    model awake = *m;
+    memset(awake.sleeping, 0, sizeof awake.sleeping);
+    return awake;
 }
 
 /* The question for the running job, of a processor of the table or now and then another. */

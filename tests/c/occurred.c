@@ -181,13 +181,13 @@ void count_handed_in(const vongselik_state *s, int well_formed, int awake_well_f
 static const char *const mode_name[] = {"", "read", "write", "certify"}, *const reason_name[] = {"", "conflict", "ceiling", "cap"};
 static const char *const kind_name[] = {"another kind", "start", "read", "write", "unlock", "finish", "abandon", "certify", "sleep", "wake"};
 
-/* The refusals that have to occur, 0 behind them, by kind: on a table of either version, and what has to be added on version 2. */
+/* The refusals that have to occur, 0 behind them, by kind: on a table of either version, and what one version adds. */
 static const int by_kind[10][10] = {
     {8, 9, 0}, {8, 10, 11, 12, 0}, {8, 10, 11, 13, 14, 26, 15, 16, 17, 0}, {8, 10, 11, 13, 14, 26, 15, 16, 17, 0}, {8, 10, 11, 13, 14, 26, 18, 21, 0},
     {8, 10, 11, 13, 14, 26, 0}, {8, 10, 11, 13, 0}, {8, 0}, {8, 10, 11, 13, 14, 26, 0}, {8, 10, 11, 13, 27, 0}};
 static const int certify_of_1[] = {9, 0}, certify_of_2[] = {10, 11, 13, 14, 26, 15, 16, 17, 24, 0}, finish_of_2[] = {25, 0};
 
-/* The refusals in the place of which 26 has to occur. */
+/* The refusals in the place of which 26 has to occur: on either version, and what version 2 adds. */
 static const int after_26[] = {15, 16, 17, 18, 21, 0}, after_26_of_2[] = {25, 24, 0};
 
 /* Whether the run is long enough for all that has to occur. */
