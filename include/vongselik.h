@@ -11,7 +11,7 @@
  * Every call may be given any contents of the struct, any bytes and any numbers: it answers, or refuses by a number from 1 to 27 (below).
  * A call that refuses leaves every byte that was lent to it as it was; an event that is refused in a list of events leaves the state as it was, and has its
  * answer as the others have. No call allocates, blocks, ends the program or keeps anything between calls, so that two threads may work on two states.
- * Reading a table takes about 6 KB of stack and writing one about 14 KB, an event, a list of events, a question, the state page or a test load less
+ * Reading a table takes about 6 KB of stack and writing one about 10 KB, an event, a list of events, a question, the state page or a test load less
  * than 1 KB. Of the C library only memcpy and memset are needed.
  *
  * What the caller still owes: each pointer points to an object of its type (a buffer or a list: to at least as many bytes or elements as its length says,
@@ -340,7 +340,7 @@ static inline uint8_t vongselik_page(const vongselik_state *state, uint8_t *buff
  * and leaves the rest of the buffer untouched. Answers 0.
  * Each event takes three steps of the seed. A step multiplies the seed by 1664525, adds 1013904223 and keeps the lowest 32 bits; the topmost 8 of them are
  * the step's number. The kind is 1 plus the first number modulo 6, the rank 1 plus the second modulo the number of jobs, the object 1 plus the third modulo
- * the number of objects. For start, finish and abandon the object is 0; the third step is taken all the same. No event is a certify, on either version.
+ * the number of objects. For start, finish and abandon the object is 0; the third step is taken all the same. No event is a certify, a sleep or a wake.
  * The same numbers of jobs and objects, seed and count give the same events everywhere. A load made in parts, each behind the one before and from the seed
  * that it left, has the same bytes as one made at once. With this table no event of it is refused by 9, 10 or 11; vongselik_events takes them as they are.
  * Refusals: 8; 23 if the buffer is shorter than three times the count. The buffer and *seed are then as they were. The state is only read. */
