@@ -143,7 +143,8 @@ fn request_of(letter: u8, object: u8) -> u16 {
     }
 }
 
-// A change of a job: + makes it active, z asleep, r and w give it a read lock and a write lock on the object, q, v and m have it wait to read, write and certify it.
+// A change of a job: + makes it active, z asleep, r and w give it a read lock and a write lock on the object, q, v and m have it wait to read, write and
+// certify it.
 fn change_job(state: State, letter: u8, rank: u8, object: u8) -> State {
     let mut next = state;
     if rank == 0 {

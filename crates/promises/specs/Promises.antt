@@ -1,7 +1,7 @@
 -- The promises about the manager as a whole: demand 3, well-formed states, granting and naming, no second wake-up, the old rule on one processor,
 -- sleepers that change no lock decision, nobody by the table, and write locks that stay, for tables of both versions, but the old rule for version 1;
--- what holds of version 2 alone; and finished runs as if one by one, for both. Their terms are in Terms.antt, for demand 3 in theory/specs/Words.antt, for write locks in
--- theory/specs/WriteLocks.antt and for finished runs in theory/specs/Arrows.antt; the files between Terms.antt and this one prove them.
+-- what holds of version 2 alone; and finished runs as if one by one, for both. Their terms are in Terms.antt, for demand 3 in theory/specs/Words.antt, for
+-- write locks in theory/specs/WriteLocks.antt and for finished runs in theory/specs/Arrows.antt; the files between Terms.antt and this one prove them.
 -- The sentences in quotes are document 01's, or where it says so 02's. Assumes nothing.
 use mathlib.Core.Path.{_≡_, refl, sym, subst, ap, _∙_}
 use mathlib.Core.Logic.{_≢_, _↔_}

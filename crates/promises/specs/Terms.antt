@@ -1,5 +1,6 @@
 -- The terms of the promises: events, what demand 3 reads off an event and its answer, whom a job names, the states that are reached,
--- a request by the old rule, no sleeper above a job, who is more urgent than an object's writers, and a ceiling. The sentences in quotes are document 01's, or where it says so 02's.
+-- a request by the old rule, no sleeper above a job, who is more urgent than an object's writers, and a ceiling. The sentences in quotes are document 01's,
+-- or where it says so 02's.
 -- Assumes nothing.
 use mathlib.Core.Path.{_≡_}
 use mathlib.Core.Bool.{Bool, true, _||_}

@@ -1,5 +1,5 @@
--- The chain of Refusals.antt over the parts of a state that the code sees: 14 and 26 together; for a request, with 15 to 17 by the sets of its object, for one to
--- certify, for a run's end, and for kinds 8 and 9.
+-- The chain of Refusals.antt over the parts of a state that the code sees: 14 and 26 together; for a request, with 15 to 17 by the sets of its object, for one
+-- to certify, for a run's end, and for kinds 8 and 9.
 -- Assumes nothing.
 use mathlib.Core.Path.{_≡_, refl, sym, subst, ap, _∙_}
 use mathlib.Core.Logic.{_≢_}

@@ -23,7 +23,8 @@ isRequest k = between 2 3 k || eqb k 7
 abbrev pub modeOf : ℕ → ℕ
 modeOf k = if eqb k 7 then certify else k - 1
 
--- kinds 2 to 5, 7 and 8 are for a job that neither waits nor sleeps: 14 refuses them "for a waiting job", and 26 is "a sleeping job's event of kind 2 to 5, 7 or 8"
+-- kinds 2 to 5, 7 and 8 are for a job that neither waits nor sleeps: 14 refuses them "for a waiting job", and 26 is "a sleeping job's event of kind 2 to 5,
+-- 7 or 8"
 abbrev pub forReady : ℕ → Bool
 forReady k = between 2 5 k || between 7 8 k
 

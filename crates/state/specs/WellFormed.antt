@@ -1,4 +1,5 @@
--- Well-formed states: refusal 8 of document 01, one definition for each of its clauses, in its order, with what CR 6 and CR 8 of document 02 make of them and add.
+-- Well-formed states: refusal 8 of document 01, one definition for each of its clauses, in its order, with what CR 6 and CR 8 of document 02 make of them and
+-- add.
 -- Assumes nothing.
 use Prim.Native.Nat.{ℕ, _^_}
 use mathlib.Core.Bool.{Bool, not, _&&_, _||_}
