@@ -30,6 +30,6 @@ isReady s p r = eqb (processorOf s r) p && isAwake s r && not (isWaiting s r)
 abbrev pub readyKey : State → ℕ → ℕ → ℕ
 readyKey s p r = if isReady s p r then inheritedRank s r * 256 + r else noKey
 
--- "A processor runs its active job that isn't waiting with the most urgent inherited rank, or is idle": that rank, or 0
+-- "A processor runs its active job that isn't waiting with the most urgent inherited rank, or is idle", and passes over a sleeper: that rank, or 0
 unfoldable pub runningRank : State → ℕ → ℕ
 runningRank s p = least (s .counts .jobs) noKey (readyKey s p) % 256

@@ -1,4 +1,4 @@
--- The job that a processor runs is ready: an active job of the processor that isn't waiting, and of these the one with the least key.
+-- The job that a processor runs is ready: an active job of the processor that is awake and isn't waiting, and of these the one with the least key.
 -- Assumes nothing.
 use mathlib.Core.Path.{_≡_, refl, subst}
 use mathlib.Core.Logic.{inl, inr}
