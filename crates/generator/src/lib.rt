@@ -16,8 +16,8 @@ use state::JobRequests;
 use state::ObjectMarks;
 use state::Sets;
 use state::State;
-use state::fits;
 use std::num::wrapping_add_u32;
+use well_formed::fits;
 
 // What the generator gives: the refusal's number or 0, and the next seed; on a refusal the seed handed in.
 pub struct Made {

@@ -7,7 +7,7 @@ use Prim.Native.Nat.{ℕ}
 use Rattle.state.specs.declared.Counts.{Counts}
 use Rattle.state.specs.declared.State.{State}
 use Rattle.state.specs.State.{stateOf}
-use Rattle.weights.specs.Weights.{weight}
+use Rattle.state.specs.Weights.{weight}
 use Rattle.weights.specs.Keys.{othersKey, objectKey, lowestKeyBy}
 use Rattle.rule.specs.Granting.{namedKey}
 use Rattle.rule.specs.Parts.{waitsOf}

@@ -27,8 +27,8 @@ use state::ObjectMarks;
 use state::Sets;
 use state::SetsMut;
 use state::State;
-use state::fits;
-use state::fits_sized;
+use well_formed::fits;
+use well_formed::fits_sized;
 
 // An event in a state that is known to be well formed: what is refused or done by its kind's rule. The next state is well formed too (manager/specs/Keeping).
 pub fn act_tested<'a>(

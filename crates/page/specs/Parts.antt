@@ -16,7 +16,7 @@ use Rattle.ranks.specs.Ranks.{member}
 use Rattle.state.specs.declared.Counts.{Counts}
 use Rattle.state.specs.declared.State.{State}
 use Rattle.state.specs.State.{mostJobs, mostProcessors, processorOf, isActive, isWaiting, isSleeping}
-use Rattle.weights.specs.Weights.{weight}
+use Rattle.state.specs.Weights.{weight}
 use Rattle.weights.specs.Keys.{keyHolder, keyObject, othersKey, objectKey, lowestKeyBy}
 use Rattle.rule.specs.Granting.{namedKey}
 use Rattle.inheritance.specs.Running.{inheritedRank, runningRank}

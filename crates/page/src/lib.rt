@@ -23,7 +23,7 @@ use state::JobRequests;
 use state::ObjectMarks;
 use state::Sets;
 use state::State;
-use state::fits_sized;
+use well_formed::fits_sized;
 
 // What the page writer answers: the page's length, or the refusal's number.
 pub enum PageAnswer {

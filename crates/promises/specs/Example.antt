@@ -16,7 +16,7 @@ use Rattle.state.specs.WellFormed.{writersAlone, waitsFit, marksFit, certifiesF
 use Rattle.table_bytes.specs.Refusals.{headerRefusal, lengthRefusal, processorByteRefusal, entryRefusal, entriesRefusal, tableRefusal}
 use Rattle.table.specs.Example.{example}
 use Rattle.table.specs.Reading.{processorsOf, withRight, declaredIn, tableState, readTable}
-use Rattle.weights.specs.Weights.{weight, oldWeight}
+use Rattle.state.specs.Weights.{weight, oldWeight}
 use Rattle.weights.specs.Keys.{othersKey, objectKey, lowestKeyBy}
 use Rattle.rule.specs.Granting.{namedKey, reason, wakeable}
 use Rattle.inheritance.specs.Running as R

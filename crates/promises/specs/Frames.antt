@@ -17,8 +17,8 @@ use Rattle.state.specs.State.{mostJobs, read, write, certify, declared, holders
 use Rattle.state.specs.Facts.{In, RequestFacts, Facts}
 use Rattle.state.specs.Changes.{overTable, Same, SameLocks, grant-certified, grant-mark-kept, grant-locks}
 use Rattle.state.specs.Keeping.{unheld, writable, read-granted, write-granted}
-use Rattle.weights.specs.Weights.{writeCeiling, absoluteCeiling, weight}
-use Rattle.weights.specs.WeightLaws.{read-own, write-writer, write-below-read, weight-small}
+use Rattle.state.specs.Weights.{writeCeiling, absoluteCeiling, weight}
+use Rattle.state.specs.WeightLaws.{read-own, write-writer, write-below-read, weight-small}
 use Rattle.weights.specs.Keys.{noWeight}
 use Rattle.theory.specs.Machine.{Passes, Took}
 use Rattle.promises.specs.Weights.{weightIf, lockWeight, lock-below}

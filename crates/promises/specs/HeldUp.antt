@@ -15,8 +15,8 @@ use Rattle.state.specs.declared.State.{State}
 use Rattle.state.specs.State.{write, declared, holds, isCertified, requestOf}
 use Rattle.state.specs.Facts.{Facts}
 use Rattle.state.specs.WellFormedFacts.{facts-well-formed, held-rank}
-use Rattle.weights.specs.Weights.{writeCeiling, weight}
-use Rattle.weights.specs.WeightLaws.{ceiling-in}
+use Rattle.state.specs.Weights.{writeCeiling, weight}
+use Rattle.state.specs.WeightLaws.{ceiling-in}
 use Rattle.weights.specs.Keys.{noWeight, keyWeight, keyHolder, keyObject, lowestKey}
 use Rattle.rule.specs.Granting.{passes, namedHolder, namedObject}
 use Rattle.rule.specs.GrantingTheorems.{stoppingHolder, stoppingObject, names-nobody}

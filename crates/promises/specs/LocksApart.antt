@@ -15,7 +15,7 @@ use Rattle.state.specs.State.{mostObjects, read, write, holds, isCertified, sha
 use Rattle.state.specs.Facts.{RequestFacts, Facts}
 use Rattle.state.specs.WellFormedFacts.{active-rank}
 use Rattle.state.specs.Keeping.{writable}
-use Rattle.weights.specs.WeightLaws.{read-writer, write-writer, write-any}
+use Rattle.state.specs.WeightLaws.{read-writer, write-writer, write-any}
 use Rattle.weights.specs.Keys.{noWeight}
 use Rattle.theory.specs.Words.{Label}
 use Rattle.theory.specs.Modes.{Gives}

@@ -21,8 +21,8 @@ use Rattle.state.specs.Facts.{In, Facts}
 use Rattle.state.specs.Keeping.{end-keeps}
 use Rattle.state.specs.Modes.{either-mode}
 use Rattle.state.specs.WellFormedFacts.{facts-well-formed, held-rank}
-use Rattle.weights.specs.Weights.{moreUrgent, ceilingOf, writeCeiling, absoluteCeiling, writeWeight, weight, oldWeight}
-use Rattle.weights.specs.WeightLaws.{ceiling-none, ceiling-least, ceiling-in}
+use Rattle.state.specs.Weights.{moreUrgent, ceilingOf, writeCeiling, absoluteCeiling, writeWeight, weight, oldWeight}
+use Rattle.state.specs.WeightLaws.{ceiling-none, ceiling-least, ceiling-in}
 use Rattle.weights.specs.Keys.{noKey, keyWeight, keyHolder, keyObject, Weigh, lowestKeyBy, lowestKey, oldLowestKey}
 use Rattle.weights.specs.KeyLaws.{KeyOfOther, key-at, key-above, stops-same, same-lowest-key}
 use Rattle.rule.specs.Granting.{passesBelow, passes, namedKeyOf, namedKey, conflicts, reason, wakes, wakeable}

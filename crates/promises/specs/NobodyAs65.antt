@@ -10,7 +10,7 @@ use Rattle.basics.specs.Loops.{least, firstNonzero}
 use Rattle.ranks.specs.Ranks.{first}
 use Rattle.state.specs.declared.State.{State}
 use Rattle.state.specs.State.{mostJobs, write, ofMode, declared, declaredAny, holders, sharesWithNone, requestOf, isWaiting, await, grant, release, endRun}
-use Rattle.weights.specs.Weights.{moreUrgent}
+use Rattle.state.specs.Weights.{moreUrgent}
 use Rattle.weights.specs.Keys.{noKey, keyHolder, keyObject, lowestKeyBy}
 use Rattle.rule.specs.Granting.{passesBelow, namedKeyOf, reasonOf}
 use Rattle.inheritance.specs.Running.{isReady}

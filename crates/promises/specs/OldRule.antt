@@ -18,8 +18,8 @@ use Rattle.state.specs.State.{mostJobs, mostObjects, read, write, processorOf, 
 use Rattle.state.specs.Facts.{Facts}
 use Rattle.state.specs.Modes.{either-mode}
 use Rattle.state.specs.WellFormedFacts.{facts-well-formed, held-rank}
-use Rattle.weights.specs.Weights.{writeCeiling, absoluteCeiling, moreUrgent, writeWeight, weight, oldWeight}
-use Rattle.weights.specs.WeightLaws.{weight-small}
+use Rattle.state.specs.Weights.{writeCeiling, absoluteCeiling, moreUrgent, writeWeight, weight, oldWeight}
+use Rattle.state.specs.WeightLaws.{weight-small}
 use Rattle.weights.specs.Keys.{noWeight, noKey, keyWeight, keyHolder, lowestKey, oldLowestKey}
 use Rattle.weights.specs.KeyLaws.{OthersLock, key-above, stops-same}
 use Rattle.rule.specs.Granting.{passes, oldPasses, namedKey}

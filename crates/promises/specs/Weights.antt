@@ -14,8 +14,8 @@ use Rattle.state.specs.State.{read, write, holds}
 use Rattle.state.specs.Facts.{Facts}
 use Rattle.state.specs.Modes.{Mode}
 use Rattle.state.specs.WellFormedFacts.{held-rank, held-object}
-use Rattle.weights.specs.Weights.{weight}
-use Rattle.weights.specs.WeightLaws.{weight-small}
+use Rattle.state.specs.Weights.{weight}
+use Rattle.state.specs.WeightLaws.{weight-small}
 use Rattle.weights.specs.Keys.{lockKey, noWeight, noKey, keyWeight, lowestKey}
 use Rattle.weights.specs.KeyLaws.{KeyOfOther, key-below, key-at}
 use Rattle.rule.specs.Granting.{passes}

@@ -4,7 +4,7 @@ use Prim.Native.Nat.{ℕ}
 use lib.Dec.{eqb}
 use Rattle.basics.specs.Choice.{if_then_else_}
 use Rattle.state.specs.declared.State.{State}
-use Rattle.weights.specs.Weights.{writeCeiling, absoluteCeiling}
+use Rattle.state.specs.Weights.{writeCeiling, absoluteCeiling}
 use Rattle.rule.specs.Granting.{namedHolder, namedObject}
 use Rattle.inheritance.specs.Running as R
 use Rattle.questions.specs.declared.RankAnswer.{RankAnswer}

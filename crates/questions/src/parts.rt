@@ -15,7 +15,7 @@ use state::JobProcessors;
 use state::JobRequests;
 use state::ObjectMarks;
 use state::Sets;
-use state::fits;
+use well_formed::fits;
 
 // A job's inherited rank: the most urgent of its own and those of the waiting jobs that name it.
 pub fn ask_inherited_rank<'a>(

@@ -13,7 +13,7 @@ use Rattle.state.specs.WellFormed.{writersAlone, waitsFit, marksFit, certifiesF
 use Rattle.table_bytes.specs.Refusals.{headerRefusal, lengthRefusal, processorByteRefusal, entryRefusal, entriesRefusal, tableRefusal}
 use Rattle.table.specs.Example.{example}
 use Rattle.table.specs.Reading.{processorsOf, withRight, declaredIn, tableState, readTable}
-use Rattle.weights.specs.Weights.{weight}
+use Rattle.state.specs.Weights.{weight}
 use Rattle.weights.specs.Keys.{othersKey, objectKey, lowestKeyBy}
 use Rattle.rule.specs.Granting.{namedKey, reason, wakeable}
 use Rattle.refusals.specs.Refusals.{allCertified, eventRefusal, refusal}

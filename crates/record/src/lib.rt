@@ -19,7 +19,7 @@ use state::JobRequests;
 use state::ObjectMarks;
 use state::Sets;
 use state::SetsMut;
-use state::fits_sized;
+use well_formed::fits_sized;
 
 // An event on the parts of a state of which it is known whether it is well formed, in place, and its line laid at the index; answers the index behind it.
 fn lay_answered<'a>(

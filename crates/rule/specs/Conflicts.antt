@@ -10,8 +10,8 @@ use Rattle.state.specs.State.{read, write, holds}
 use Rattle.state.specs.Facts.{RequestFacts, Facts}
 use Rattle.state.specs.Modes.{Mode}
 use Rattle.state.specs.Keeping.{NoConflict, writable}
-use Rattle.weights.specs.Weights.{weight}
-use Rattle.weights.specs.WeightLaws.{read-writer, write-any, write-writer}
+use Rattle.state.specs.Weights.{weight}
+use Rattle.state.specs.WeightLaws.{read-writer, write-any, write-writer}
 use Rattle.rule.specs.Granting.{passes}
 use Rattle.rule.specs.GrantingTheorems.{passes-more-urgent}
 

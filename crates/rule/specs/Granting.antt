@@ -8,7 +8,7 @@ use Rattle.basics.specs.Loops.{firstNonzero}
 use Rattle.ranks.specs.Ranks.{member}
 use Rattle.state.specs.declared.State.{State}
 use Rattle.state.specs.State.{write, strongest, holders, sharesWithNone, requestOf, isWaiting}
-use Rattle.weights.specs.Weights.{writeCeiling}
+use Rattle.state.specs.Weights.{writeCeiling}
 use Rattle.weights.specs.Keys.{noKey, keyWeight, keyHolder, keyObject, lowestKey, oldLowestKey}
 
 -- "A request is granted if the requester's rank is more urgent than the weight of every lock held by others."

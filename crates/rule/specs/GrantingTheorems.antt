@@ -15,7 +15,7 @@ use Rattle.state.specs.Modes.{Mode}
 use Rattle.state.specs.WellFormed.{wellFormed}
 use Rattle.state.specs.Facts.{Sized, Facts}
 use Rattle.state.specs.WellFormedFacts.{facts, held-rank, held-object, waiting-rank}
-use Rattle.weights.specs.Weights.{weight}
+use Rattle.state.specs.Weights.{weight}
 use Rattle.weights.specs.Keys.{lockKey, noKey, keyWeight, keyHolder, keyObject, lowestKey}
 use Rattle.weights.specs.KeyLaws.{OthersLock, KeyOfOther, key-below, key-at, le-key}
 use Rattle.rule.specs.Granting.{passes, namedKey, namedHolder, namedObject}

@@ -8,7 +8,7 @@ use Rattle.basics.specs.Loops.{least}
 use Rattle.state.specs.declared.Counts.{Counts}
 use Rattle.state.specs.declared.State.{State}
 use Rattle.state.specs.State.{stateOf, holders, sharesWithNone, requestOf, write}
-use Rattle.weights.specs.Weights.{writeCeiling, weight}
+use Rattle.state.specs.Weights.{writeCeiling, weight}
 use Rattle.weights.specs.Keys.{noKey, othersKey, objectKey, lowestKey, lowestKeyBy}
 use Rattle.weights.specs.Parts.{locksOf, keyAt, lowest-key-parts, lowest-key-at}
 use Rattle.rule.specs.Granting.{namedKeyOf, namedKey, reasonOf, reason, wakeable}

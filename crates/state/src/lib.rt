@@ -1,28 +1,16 @@
-// The lock manager's state, and the test whether a state is well formed. Ranks and objects count from 1; rank 1 is the most urgent.
-ghost use mathlib.Core.Path.{_≡_};
-ghost use mathlib.Core.Bool.{_&&_};
-ghost use lib.Dec.{eqb};
-ghost use lib.ListN.{length};
-ghost use Rattle.state.specs.State.{mostJobs, mostObjects, markWords, stateOf};
-ghost use Rattle.state.specs.WellFormed.{wellFormed};
-ghost use Rattle.state.specs.Facts.{Sized};
-
-mod jobs;
-mod locks;
+// The lock manager's state, and questions about its parts. Ranks and objects count from 1; rank 1 is the most urgent.
+mod limits;
 mod marks;
+mod parts;
 
-pub use jobs::counts_within;
-pub use jobs::is_version;
-pub use jobs::of_mode;
-use jobs::processors_fit;
-use jobs::waits_fit;
-pub use jobs::within;
-use locks::survey_objects;
-pub use locks::union_of;
-use locks::union_outside;
-use marks::certified_well;
+pub use limits::counts_within;
+pub use limits::is_version;
+pub use limits::within;
 pub use marks::is_marked;
 pub use marks::shares_with_none;
+pub use parts::none_waits;
+pub use parts::of_mode;
+pub use parts::union_of;
 use ranks::RankSet;
 
 // A table's version, and how many processors, jobs and objects it has.
@@ -61,141 +49,4 @@ pub struct State {
     pub writers: ObjectSets,
     pub certified: ObjectMarks,
     pub request: JobRequests,
-}
-
-// Whether the state with these parts is well formed. Who has unlocked and who sleeps are looked at together: they are active and wait for nothing.
-pub fn fits<'a>(
-    counts: Counts,
-    processor_of: &'a JobProcessors,
-    may_read: Sets<'a>,
-    may_write: Sets<'a>,
-    active: RankSet,
-    unlocked: RankSet,
-    sleeping: RankSet,
-    readers: Sets<'a>,
-    writers: Sets<'a>,
-    certified: &'a ObjectMarks,
-    request: &'a JobRequests,
-) -> bool
-    ensures { λ r. ⌜ r ≡ wellFormed (stateOf counts (now («processor_of» .entry)) (now («may_read» .entry)) (now («may_write» .entry))
-        active unlocked sleeping (now (readers .entry)) (now (writers .entry)) (now (certified .entry)) (now (request .entry))) ⌝ }
-{
-    if !(counts_within(counts) & is_version(counts.version)) {
-        return false;
-    }
-    let all = ranks::up_to(counts.jobs);
-    let marked = ranks::union(unlocked, sleeping);
-    let outside = union_outside(may_read, may_write, readers, writers, counts.objects);
-    let seen = survey_objects(
-        counts.version == 1,
-        may_read,
-        may_write,
-        readers,
-        writers,
-        counts.objects,
-    );
-    ranks::is_empty(seen.wrong)
-        & ranks::is_empty(outside)
-        & ranks::is_subset(seen.declared, all)
-        & ranks::is_subset(seen.held, active)
-        & ranks::is_subset(active, all)
-        & ranks::is_subset(marked, active)
-        & certified_well(counts.version, readers, writers, certified)
-        & processors_fit(counts, processor_of)
-        & waits_fit(
-            counts,
-            may_read,
-            may_write,
-            active,
-            marked,
-            readers,
-            writers,
-            certified,
-            request,
-        )
-}
-
-// Whether lists have the lengths of a state's arrays.
-fn have_lengths<'a>(
-    processor_of: &'a [u8],
-    may_read: &'a [RankSet],
-    may_write: &'a [RankSet],
-    readers: &'a [RankSet],
-    writers: &'a [RankSet],
-    certified: &'a [u64],
-    request: &'a [u16],
-) -> bool
-    ensures { λ r. ⌜ r ≡ (eqb (length (now («processor_of» .entry))) mostJobs && eqb (length (now («may_read» .entry))) mostObjects && eqb (length (now («may_write» .entry))) mostObjects
-        && eqb (length (now (readers .entry))) mostObjects && eqb (length (now (writers .entry))) mostObjects && eqb (length (now (certified .entry))) markWords
-        && eqb (length (now (request .entry))) mostJobs) ⌝ }
-{
-    (processor_of.len() == 64)
-        & (may_read.len() == 128)
-        & (may_write.len() == 128)
-        & (readers.len() == 128)
-        & (writers.len() == 128)
-        & (certified.len() == 2)
-        & (request.len() == 64)
-}
-
-// The same, and that the parts have their lengths, as whatever is lent has: what the laws about the next state ask.
-pub fn fits_sized<'a>(
-    counts: Counts,
-    processor_of: &'a JobProcessors,
-    may_read: Sets<'a>,
-    may_write: Sets<'a>,
-    active: RankSet,
-    unlocked: RankSet,
-    sleeping: RankSet,
-    readers: Sets<'a>,
-    writers: Sets<'a>,
-    certified: &'a ObjectMarks,
-    request: &'a JobRequests,
-) -> bool
-    ensures { λ r. ⌜ (r ≡ wellFormed (stateOf counts (now («processor_of» .entry)) (now («may_read» .entry)) (now («may_write» .entry))
-        active unlocked sleeping (now (readers .entry)) (now (writers .entry)) (now (certified .entry)) (now (request .entry))))
-        × Sized (stateOf counts (now («processor_of» .entry)) (now («may_read» .entry)) (now («may_write» .entry))
-        active unlocked sleeping (now (readers .entry)) (now (writers .entry)) (now (certified .entry)) (now (request .entry))) ⌝ }
-{
-    have_lengths(
-        processor_of,
-        may_read,
-        may_write,
-        readers,
-        writers,
-        certified,
-        request,
-    )
-        & fits(
-            counts,
-            processor_of,
-            may_read,
-            may_write,
-            active,
-            unlocked,
-            sleeping,
-            readers,
-            writers,
-            certified,
-            request,
-        )
-}
-
-// Whether a state is well formed: what refusal 8 tests. Whatever is handed in, its arrays have their lengths.
-pub fn is_well_formed(state: State) -> bool
-    ensures { λ r. ⌜ (r ≡ wellFormed state) × Sized state ⌝ }
-{
-    fits_sized(
-        state.counts,
-        &state.processor_of,
-        &state.may_read,
-        &state.may_write,
-        state.active,
-        state.unlocked,
-        state.sleeping,
-        &state.readers,
-        &state.writers,
-        &state.certified,
-        &state.request,
-    )
 }

@@ -10,7 +10,7 @@ mod lay;
 use count::entry_count;
 use lay::lay_table;
 use state::State;
-use state::is_well_formed;
+use well_formed::is_well_formed;
 
 // What the table writer answers: the table's length, or the refusal's number.
 pub enum Written {

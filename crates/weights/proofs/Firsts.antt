@@ -14,7 +14,7 @@ use Rattle.ranks.specs.RankLaws.{first-least, first-member, first-pos, first-so
 use Rattle.ranks.specs.UnionLaws.{empty-union}
 use Rattle.state.specs.declared.Counts.{Counts}
 use Rattle.state.specs.State.{mostJobs}
-use Rattle.weights.specs.Weights.{ceilingOf, moreUrgent}
+use Rattle.state.specs.Weights.{ceilingOf, moreUrgent}
 use Rattle.weights.specs.Keys.{lockKey, noWeight, noKey, no-key-above}
 use Rattle.weights.specs.ObjectKeys.{readerKey, writersWeight, writerKey, objectKeyOf}
 

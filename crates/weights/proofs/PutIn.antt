@@ -11,7 +11,7 @@ use Rattle.ranks.specs.RankLaws.{member-empty, member-with-same, member-with-ot
 use Rattle.ranks.specs.UnionLaws.{first-union}
 use Rattle.state.specs.declared.Counts.{Counts}
 use Rattle.state.specs.State.{mostJobs}
-use Rattle.weights.specs.Weights.{ceilingOf}
+use Rattle.state.specs.Weights.{ceilingOf}
 
 -- the set of one rank has it as its first
 first-alone : (r : ℕ) → 1 ≤ r → r ≤ mostJobs → first mostJobs (with 0 r) ≡ r

@@ -9,7 +9,7 @@ use Rattle.basics.specs.Choice.{if_then_else_}
 use Rattle.basics.specs.Loops.{least}
 use Rattle.state.specs.declared.State.{State}
 use Rattle.state.specs.State.{mostJobs, read, write, holds}
-use Rattle.weights.specs.Weights.{weight, oldWeight}
+use Rattle.state.specs.Weights.{weight, oldWeight}
 
 abbrev pub lockKey : ℕ → ℕ → ℕ → ℕ
 lockKey weighs holder object = weighs * 65536 + holder * 256 + object

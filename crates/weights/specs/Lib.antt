@@ -1,6 +1,4 @@
 -- Ceilings, what a lock weighs, and the key that orders locks.
-pub mod Weights
-pub mod WeightLaws
 pub mod Keys
 pub mod KeyLaws
 pub mod ObjectKeys

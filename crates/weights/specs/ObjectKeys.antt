@@ -14,7 +14,7 @@ use Rattle.ranks.specs.RankLaws.{member-without-same, member-without-other}
 use Rattle.state.specs.declared.Counts.{Counts}
 use Rattle.state.specs.declared.State.{State}
 use Rattle.state.specs.State.{mostJobs, read, write, holders, declared, sharesWithNone}
-use Rattle.weights.specs.Weights.{ceilingOf, moreUrgent, writeWeight, weight}
+use Rattle.state.specs.Weights.{ceilingOf, moreUrgent, writeWeight, weight}
 use Rattle.weights.specs.Keys.{lockKey, noKey, othersKey, objectKey}
 
 -- the key of r's lock on o, if r is one of the holders

@@ -10,7 +10,7 @@ use Rattle.basics.specs.Loops.{least, least-same}
 use Rattle.state.specs.declared.Counts.{Counts}
 use Rattle.state.specs.declared.State.{State}
 use Rattle.state.specs.State.{marked, stateOf}
-use Rattle.weights.specs.Weights.{weight}
+use Rattle.state.specs.Weights.{weight}
 use Rattle.weights.specs.Keys.{noKey, othersKey, objectKey, lowestKey, lowestKeyBy}
 use Rattle.weights.specs.ObjectKeys.{objectKeyOf, object-key-sets}
 

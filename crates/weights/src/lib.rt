@@ -6,7 +6,7 @@ ghost use Prim.Native.Nat.{ℕ, _≤_, _<_, min};
 ghost use lib.Dec.{eqb};
 ghost use Rattle.ranks.specs.Ranks.{first, union};
 ghost use Rattle.state.specs.State.{mostJobs, mostObjects, marked};
-ghost use Rattle.weights.specs.Weights as W;
+ghost use Rattle.state.specs.Weights as W;
 ghost use Rattle.weights.specs.Keys as K;
 ghost use Rattle.weights.specs.ObjectKeys as O;
 ghost use Rattle.weights.specs.Parts as P;

@@ -9,7 +9,7 @@ use Prim.Native.Nat.{ℕ, _≤_}
 use native.Mathlib.Omega.{arith}
 use Rattle.basics.specs.Arrays.{at}
 use Rattle.state.specs.State.{mostJobs, mostObjects, stateOf, grant, await}
-use Rattle.weights.specs.Weights.{ceilingOf, weight}
+use Rattle.state.specs.Weights.{ceilingOf, weight}
 use Rattle.weights.specs.Keys.{keyHolder, keyObject}
 use Rattle.rule.specs.Granting.{reason, reasonOf}
 use Rattle.weights.specs.Parts.{locksState, lowest-key-parts}

@@ -6,7 +6,7 @@ use Rattle.record.proofs.lay_events.Tie as tie
 use Rattle.record.proofs.lay_events.Reads as reads
 use Rattle.record.proofs.lay_events.Lts as lts
 use Rattle.record.proofs.lay_each.Reads as lay-each-reads
-use Rattle.state.proofs.fits_sized.Reads as fits-sized-reads
+use Rattle.well_formed.proofs.fits_sized.Reads as fits-sized-reads
 
 fits-sized-requires : tie.Need-fits-sized-requires
 fits-sized-requires c κs = search needs

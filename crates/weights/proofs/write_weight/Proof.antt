@@ -11,7 +11,7 @@ use Rattle.basics.specs.Choice.{if_then_else_}
 use Rattle.ranks.specs.Ranks.{union}
 use Rattle.state.specs.declared.Counts.{Counts}
 use Rattle.state.specs.State.{marked}
-use Rattle.weights.specs.Weights.{ceilingOf}
+use Rattle.state.specs.Weights.{ceilingOf}
 use Rattle.weights.specs.ObjectKeys.{writersWeight}
 use borrow.Author.Needs.{needs}
 use Rattle.weights.proofs.write_weight.Statement.{statement}

@@ -2,7 +2,7 @@
 -- Assumes nothing.
 use mathlib.Core.Path.{ap₂}
 use Rattle.ranks.specs.Ranks.{union}
-use Rattle.weights.specs.Weights.{ceilingOf}
+use Rattle.state.specs.Weights.{ceilingOf}
 use Rattle.refusals.specs.Accepting.{object-asking}
 use denote.Ref.{now}
 use mathlib.Core.Path.{_≡_, sym, ap, _∙_}

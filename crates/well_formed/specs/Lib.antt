@@ -1,0 +1,2 @@
+-- What the test of a state gathers.
+pub mod Survey
