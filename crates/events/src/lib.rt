@@ -49,8 +49,8 @@ pub struct Outcome {
 fn start(counts: Counts, active: &mut RankSet, rank: u8, object: u8) -> Answer
     requires { ⌜ counts .jobs ≤ mostJobs ⌝ }
     ensures { λ r. ⌜ ((u z : ℕ) (ps mr mw rs ws cs q : List ℕ) →
-        E.outcome r (stateOf counts ps mr mw (now (active .exit)) u z rs ws cs q)
-        ≡ E.perform (stateOf counts ps mr mw (now (active .entry)) u z rs ws cs q) 1 rank object) ⌝ }
+        E.outcome r (stateOf counts ps mr mw (now (active .exit)) u z h rs ws cs q)
+        ≡ E.perform (stateOf counts ps mr mw (now (active .entry)) u z h rs ws cs q) 1 rank object) ⌝ }
 {
     let number = start_refusal(counts, *active, rank, object);
     if number != 0 {
@@ -75,8 +75,8 @@ fn grant_or_wait<'a>(
 ) -> Answer
     requires { ⌜ (counts .objects ≤ mostObjects) × (1 ≤ mode) × (mode ≤ certify) × (1 ≤ rank) × (rank ≤ mostJobs) × (1 ≤ object) × (object ≤ mostObjects) ⌝ }
     ensures { λ r. ⌜ ((a u z : ℕ) (ps : List ℕ) →
-        E.outcome r (stateOf counts ps (now («may_read» .entry)) (now («may_write» .entry)) a u z (now (readers .exit)) (now (writers .exit)) (now (certified .exit)) (now (request .exit)))
-        ≡ E.request (stateOf counts ps (now («may_read» .entry)) (now («may_write» .entry)) a u z (now (readers .entry)) (now (writers .entry)) (now (certified .entry)) (now (request .entry))) mode rank object) ⌝ }
+        E.outcome r (stateOf counts ps (now («may_read» .entry)) (now («may_write» .entry)) a u z h (now (readers .exit)) (now (writers .exit)) (now (certified .exit)) (now (request .exit)))
+        ≡ E.request (stateOf counts ps (now («may_read» .entry)) (now («may_write» .entry)) a u z h (now (readers .entry)) (now (writers .entry)) (now (certified .entry)) (now (request .entry))) mode rank object) ⌝ }
 {
     let key = weights::lowest_key(
         counts,
@@ -129,8 +129,8 @@ fn lock<'a>(
 ) -> Answer
     requires { ⌜ (counts .jobs ≤ mostJobs) × (counts .objects ≤ mostObjects) × (2 ≤ kind) × (kind ≤ 3) ⌝ }
     ensures { λ r. ⌜ ((ps : List ℕ) →
-        E.outcome r (stateOf counts ps (now («may_read» .entry)) (now («may_write» .entry)) active unlocked sleeping (now (readers .exit)) (now (writers .exit)) (now (certified .exit)) (now (request .exit)))
-        ≡ E.perform (stateOf counts ps (now («may_read» .entry)) (now («may_write» .entry)) active unlocked sleeping (now (readers .entry)) (now (writers .entry)) (now (certified .entry)) (now (request .entry))) kind rank object) ⌝ }
+        E.outcome r (stateOf counts ps (now («may_read» .entry)) (now («may_write» .entry)) active unlocked sleeping holder (now (readers .exit)) (now (writers .exit)) (now (certified .exit)) (now (request .exit)))
+        ≡ E.perform (stateOf counts ps (now («may_read» .entry)) (now («may_write» .entry)) active unlocked sleeping holder (now (readers .entry)) (now (writers .entry)) (now (certified .entry)) (now (request .entry))) kind rank object) ⌝ }
 {
     let number = lock_refusal(
         counts,
@@ -181,8 +181,8 @@ fn certify<'a>(
 ) -> Answer
     requires { ⌜ (counts .jobs ≤ mostJobs) × (counts .objects ≤ mostObjects) ⌝ }
     ensures { λ r. ⌜ ((ps : List ℕ) →
-        E.outcome r (stateOf counts ps (now («may_read» .entry)) (now («may_write» .entry)) active unlocked sleeping (now (readers .exit)) (now (writers .exit)) (now (certified .exit)) (now (request .exit)))
-        ≡ E.perform (stateOf counts ps (now («may_read» .entry)) (now («may_write» .entry)) active unlocked sleeping (now (readers .entry)) (now (writers .entry)) (now (certified .entry)) (now (request .entry))) 7 rank object) ⌝ }
+        E.outcome r (stateOf counts ps (now («may_read» .entry)) (now («may_write» .entry)) active unlocked sleeping holder (now (readers .exit)) (now (writers .exit)) (now (certified .exit)) (now (request .exit)))
+        ≡ E.perform (stateOf counts ps (now («may_read» .entry)) (now («may_write» .entry)) active unlocked sleeping holder (now (readers .entry)) (now (writers .entry)) (now (certified .entry)) (now (request .entry))) 7 rank object) ⌝ }
 {
     let number = certify_refusal(
         counts,
@@ -226,8 +226,8 @@ fn wake<'a>(
 ) -> Answer
     requires { ⌜ (counts .jobs ≤ mostJobs) × (counts .objects ≤ mostObjects) × RequestsFit (now request) ⌝ }
     ensures { λ r. ⌜ ((a u z : ℕ) (ps : List ℕ) →
-        E.outcome r (stateOf counts ps (now («may_read» .entry)) (now («may_write» .entry)) a u z (now (readers .exit)) (now (writers .exit)) (now (certified .exit)) (now (request .exit)))
-        ≡ E.wake (stateOf counts ps (now («may_read» .entry)) (now («may_write» .entry)) a u z (now (readers .entry)) (now (writers .entry)) (now (certified .entry)) (now (request .entry)))) ⌝ }
+        E.outcome r (stateOf counts ps (now («may_read» .entry)) (now («may_write» .entry)) a u z h (now (readers .exit)) (now (writers .exit)) (now (certified .exit)) (now (request .exit)))
+        ≡ E.wake (stateOf counts ps (now («may_read» .entry)) (now («may_write» .entry)) a u z h (now (readers .entry)) (now (writers .entry)) (now (certified .entry)) (now (request .entry)))) ⌝ }
 {
     let rank = rule::wakeable(
         counts,
@@ -270,8 +270,8 @@ fn unlock<'a>(
 ) -> Answer
     requires { ⌜ InRange counts (now request) ⌝ }
     ensures { λ r. ⌜ ((ps : List ℕ) →
-        E.outcome r (stateOf counts ps (now («may_read» .entry)) (now («may_write» .entry)) active (now (unlocked .exit)) sleeping (now (readers .exit)) (now (writers .exit)) (now (certified .exit)) (now (request .exit)))
-        ≡ E.perform (stateOf counts ps (now («may_read» .entry)) (now («may_write» .entry)) active (now (unlocked .entry)) sleeping (now (readers .entry)) (now (writers .entry)) (now (certified .entry)) (now (request .entry))) 4 rank object) ⌝ }
+        E.outcome r (stateOf counts ps (now («may_read» .entry)) (now («may_write» .entry)) active (now (unlocked .exit)) sleeping holder (now (readers .exit)) (now (writers .exit)) (now (certified .exit)) (now (request .exit)))
+        ≡ E.perform (stateOf counts ps (now («may_read» .entry)) (now («may_write» .entry)) active (now (unlocked .entry)) sleeping holder (now (readers .entry)) (now (writers .entry)) (now (certified .entry)) (now (request .entry))) 4 rank object) ⌝ }
 {
     let number = unlock_refusal(
         counts,
@@ -314,8 +314,8 @@ fn end_run<'a>(
 ) -> Answer
     requires { ⌜ (counts .jobs ≤ mostJobs) × (counts .objects ≤ mostObjects) × (1 ≤ rank) × (rank ≤ mostJobs) × RequestsFit (now request) ⌝ }
     ensures { λ r. ⌜ ((ps : List ℕ) →
-        E.outcome r (stateOf counts ps (now («may_read» .entry)) (now («may_write» .entry)) (now (active .exit)) (now (unlocked .exit)) (now (sleeping .exit)) (now (readers .exit)) (now (writers .exit)) (now (certified .exit)) (now (request .exit)))
-        ≡ E.finish (stateOf counts ps (now («may_read» .entry)) (now («may_write» .entry)) (now (active .entry)) (now (unlocked .entry)) (now (sleeping .entry)) (now (readers .entry)) (now (writers .entry)) (now (certified .entry)) (now (request .entry))) rank) ⌝ }
+        E.outcome r (stateOf counts ps (now («may_read» .entry)) (now («may_write» .entry)) (now (active .exit)) (now (unlocked .exit)) (now (sleeping .exit)) (now (holder .exit)) (now (readers .exit)) (now (writers .exit)) (now (certified .exit)) (now (request .exit)))
+        ≡ E.finish (stateOf counts ps (now («may_read» .entry)) (now («may_write» .entry)) (now (active .entry)) (now (unlocked .entry)) (now (sleeping .entry)) (now (holder .entry)) (now (readers .entry)) (now (writers .entry)) (now (certified .entry)) (now (request .entry))) rank) ⌝ }
 {
     *active = ranks::without(*active, rank);
     *unlocked = ranks::without(*unlocked, rank);
@@ -353,8 +353,8 @@ fn finish<'a>(
 ) -> Answer
     requires { ⌜ InRange counts (now request) × (5 ≤ kind) × (kind ≤ 6) ⌝ }
     ensures { λ r. ⌜ ((ps : List ℕ) →
-        E.outcome r (stateOf counts ps (now («may_read» .entry)) (now («may_write» .entry)) (now (active .exit)) (now (unlocked .exit)) (now (sleeping .exit)) (now (readers .exit)) (now (writers .exit)) (now (certified .exit)) (now (request .exit)))
-        ≡ E.perform (stateOf counts ps (now («may_read» .entry)) (now («may_write» .entry)) (now (active .entry)) (now (unlocked .entry)) (now (sleeping .entry)) (now (readers .entry)) (now (writers .entry)) (now (certified .entry)) (now (request .entry))) kind rank object) ⌝ }
+        E.outcome r (stateOf counts ps (now («may_read» .entry)) (now («may_write» .entry)) (now (active .exit)) (now (unlocked .exit)) (now (sleeping .exit)) (now (holder .exit)) (now (readers .exit)) (now (writers .exit)) (now (certified .exit)) (now (request .exit)))
+        ≡ E.perform (stateOf counts ps (now («may_read» .entry)) (now («may_write» .entry)) (now (active .entry)) (now (unlocked .entry)) (now (sleeping .entry)) (now (holder .entry)) (now (readers .entry)) (now (writers .entry)) (now (certified .entry)) (now (request .entry))) kind rank object) ⌝ }
 {
     let number = finish_refusal(
         counts,
@@ -397,8 +397,8 @@ fn sleep_or_awaken(
 ) -> Answer
     requires { ⌜ (counts .jobs ≤ mostJobs) × (8 ≤ kind) × (kind ≤ 9) ⌝ }
     ensures { λ r. ⌜ ((u : ℕ) (ps mr mw rs ws cs : List ℕ) →
-        E.outcome r (stateOf counts ps mr mw active u (now (sleeping .exit)) rs ws cs (now (request .entry)))
-        ≡ E.perform (stateOf counts ps mr mw active u (now (sleeping .entry)) rs ws cs (now (request .entry))) kind rank object) ⌝ }
+        E.outcome r (stateOf counts ps mr mw active u (now (sleeping .exit)) (now (holder .exit)) rs ws cs (now (request .entry)))
+        ≡ E.perform (stateOf counts ps mr mw active u (now (sleeping .entry)) (now (holder .entry)) rs ws cs (now (request .entry))) kind rank object) ⌝ }
 {
     let asleep = *sleeping;
     let number = sleep_refusal(counts, active, asleep, request, kind, rank, object);
@@ -431,8 +431,8 @@ pub fn perform<'a>(
 ) -> Answer
     requires { ⌜ InRange counts (now request) ⌝ }
     ensures { λ r. ⌜ ((ps : List ℕ) →
-        E.outcome r (stateOf counts ps (now («may_read» .entry)) (now («may_write» .entry)) (now (active .exit)) (now (unlocked .exit)) (now (sleeping .exit)) (now (readers .exit)) (now (writers .exit)) (now (certified .exit)) (now (request .exit)))
-        ≡ E.perform (stateOf counts ps (now («may_read» .entry)) (now («may_write» .entry)) (now (active .entry)) (now (unlocked .entry)) (now (sleeping .entry)) (now (readers .entry)) (now (writers .entry)) (now (certified .entry)) (now (request .entry))) kind rank object) ⌝ }
+        E.outcome r (stateOf counts ps (now («may_read» .entry)) (now («may_write» .entry)) (now (active .exit)) (now (unlocked .exit)) (now (sleeping .exit)) (now (holder .exit)) (now (readers .exit)) (now (writers .exit)) (now (certified .exit)) (now (request .exit)))
+        ≡ E.perform (stateOf counts ps (now («may_read» .entry)) (now («may_write» .entry)) (now (active .entry)) (now (unlocked .entry)) (now (sleeping .entry)) (now (holder .entry)) (now (readers .entry)) (now (writers .entry)) (now (certified .entry)) (now (request .entry))) kind rank object) ⌝ }
 {
     match kind {
         1 => start(counts, active, rank, object),

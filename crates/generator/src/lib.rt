@@ -38,6 +38,7 @@ pub fn make_events(state: State, seed: u32, count: usize, buf: &mut [u8]) -> Mad
         state.active,
         state.unlocked,
         state.sleeping,
+        state.holder,
         &state.readers,
         &state.writers,
         &state.certified,
@@ -57,6 +58,7 @@ pub fn make_load<'a>(
     active: RankSet,
     unlocked: RankSet,
     sleeping: RankSet,
+    holder: u8,
     readers: Sets<'a>,
     writers: Sets<'a>,
     certified: &'a ObjectMarks,
@@ -66,9 +68,9 @@ pub fn make_load<'a>(
     buf: &mut [u8],
 ) -> Made
     ensures { λ r. ⌜ (r ≡ L.makeEvents (stateOf counts (now («processor_of» .entry)) (now («may_read» .entry)) (now («may_write» .entry))
-        active unlocked sleeping (now (readers .entry)) (now (writers .entry)) (now (certified .entry)) (now (request .entry))) seed count (now (buf .entry)))
+        active unlocked sleeping holder (now (readers .entry)) (now (writers .entry)) (now (certified .entry)) (now (request .entry))) seed count (now (buf .entry)))
         × (now (buf .exit) ≡ L.eventsMade (stateOf counts (now («processor_of» .entry)) (now («may_read» .entry)) (now («may_write» .entry))
-        active unlocked sleeping (now (readers .entry)) (now (writers .entry)) (now (certified .entry)) (now (request .entry))) seed count (now (buf .entry))) ⌝ }
+        active unlocked sleeping holder (now (readers .entry)) (now (writers .entry)) (now (certified .entry)) (now (request .entry))) seed count (now (buf .entry))) ⌝ }
 {
     let well = fits(
         counts,
@@ -78,6 +80,7 @@ pub fn make_load<'a>(
         active,
         unlocked,
         sleeping,
+        holder,
         readers,
         writers,
         certified,

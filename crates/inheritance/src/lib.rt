@@ -172,6 +172,7 @@ pub fn running_rank<'a>(
     processor_of: &'a JobProcessors,
     active: RankSet,
     sleeping: RankSet,
+    holder: u8,
     may_read: Sets<'a>,
     may_write: Sets<'a>,
     readers: Sets<'a>,

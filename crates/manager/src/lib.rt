@@ -39,6 +39,7 @@ pub fn act_tested<'a>(
     active: &mut RankSet,
     unlocked: &mut RankSet,
     sleeping: &mut RankSet,
+    holder: &mut u8,
     readers: SetsMut,
     writers: SetsMut,
     certified: &mut ObjectMarks,
@@ -47,9 +48,9 @@ pub fn act_tested<'a>(
     rank: u8,
     object: u8,
 ) -> Answer
-    requires { ⌜ wellFormed (stateOf counts (now «processor_of») (now «may_read») (now «may_write») (now active) (now unlocked) (now sleeping) (now readers) (now writers) (now certified) (now request)) ≡ true ⌝ }
-    ensures { λ r. ⌜ outcome r (stateOf counts (now («processor_of» .entry)) (now («may_read» .entry)) (now («may_write» .entry)) (now (active .exit)) (now (unlocked .exit)) (now (sleeping .exit)) (now (readers .exit)) (now (writers .exit)) (now (certified .exit)) (now (request .exit)))
-        ≡ step (stateOf counts (now («processor_of» .entry)) (now («may_read» .entry)) (now («may_write» .entry)) (now (active .entry)) (now (unlocked .entry)) (now (sleeping .entry)) (now (readers .entry)) (now (writers .entry)) (now (certified .entry)) (now (request .entry))) kind rank object ⌝ }
+    requires { ⌜ wellFormed (stateOf counts (now «processor_of») (now «may_read») (now «may_write») (now active) (now unlocked) (now sleeping) (now holder) (now readers) (now writers) (now certified) (now request)) ≡ true ⌝ }
+    ensures { λ r. ⌜ outcome r (stateOf counts (now («processor_of» .entry)) (now («may_read» .entry)) (now («may_write» .entry)) (now (active .exit)) (now (unlocked .exit)) (now (sleeping .exit)) (now (holder .exit)) (now (readers .exit)) (now (writers .exit)) (now (certified .exit)) (now (request .exit)))
+        ≡ step (stateOf counts (now («processor_of» .entry)) (now («may_read» .entry)) (now («may_write» .entry)) (now (active .entry)) (now (unlocked .entry)) (now (sleeping .entry)) (now (holder .entry)) (now (readers .entry)) (now (writers .entry)) (now (certified .entry)) (now (request .entry))) kind rank object ⌝ }
 {
     perform(
         counts,
@@ -58,6 +59,7 @@ pub fn act_tested<'a>(
         active,
         unlocked,
         sleeping,
+        holder,
         readers,
         writers,
         certified,
@@ -78,6 +80,7 @@ pub fn act_known<'a>(
     active: &mut RankSet,
     unlocked: &mut RankSet,
     sleeping: &mut RankSet,
+    holder: &mut u8,
     readers: SetsMut,
     writers: SetsMut,
     certified: &mut ObjectMarks,
@@ -86,9 +89,9 @@ pub fn act_known<'a>(
     rank: u8,
     object: u8,
 ) -> Answer
-    requires { ⌜ well ≡ wellFormed (stateOf counts (now «processor_of») (now «may_read») (now «may_write») (now active) (now unlocked) (now sleeping) (now readers) (now writers) (now certified) (now request)) ⌝ }
-    ensures { λ r. ⌜ outcome r (stateOf counts (now («processor_of» .entry)) (now («may_read» .entry)) (now («may_write» .entry)) (now (active .exit)) (now (unlocked .exit)) (now (sleeping .exit)) (now (readers .exit)) (now (writers .exit)) (now (certified .exit)) (now (request .exit)))
-        ≡ step (stateOf counts (now («processor_of» .entry)) (now («may_read» .entry)) (now («may_write» .entry)) (now (active .entry)) (now (unlocked .entry)) (now (sleeping .entry)) (now (readers .entry)) (now (writers .entry)) (now (certified .entry)) (now (request .entry))) kind rank object ⌝ }
+    requires { ⌜ well ≡ wellFormed (stateOf counts (now «processor_of») (now «may_read») (now «may_write») (now active) (now unlocked) (now sleeping) (now holder) (now readers) (now writers) (now certified) (now request)) ⌝ }
+    ensures { λ r. ⌜ outcome r (stateOf counts (now («processor_of» .entry)) (now («may_read» .entry)) (now («may_write» .entry)) (now (active .exit)) (now (unlocked .exit)) (now (sleeping .exit)) (now (holder .exit)) (now (readers .exit)) (now (writers .exit)) (now (certified .exit)) (now (request .exit)))
+        ≡ step (stateOf counts (now («processor_of» .entry)) (now («may_read» .entry)) (now («may_write» .entry)) (now (active .entry)) (now (unlocked .entry)) (now (sleeping .entry)) (now (holder .entry)) (now (readers .entry)) (now (writers .entry)) (now (certified .entry)) (now (request .entry))) kind rank object ⌝ }
 {
     if !well {
         return Answer::Refused(8);
@@ -101,6 +104,7 @@ pub fn act_known<'a>(
         active,
         unlocked,
         sleeping,
+        holder,
         readers,
         writers,
         certified,
@@ -121,6 +125,7 @@ pub fn act_packed<'a>(
     active: &mut RankSet,
     unlocked: &mut RankSet,
     sleeping: &mut RankSet,
+    holder: &mut u8,
     readers: SetsMut,
     writers: SetsMut,
     certified: &mut ObjectMarks,
@@ -129,11 +134,11 @@ pub fn act_packed<'a>(
     rank: u8,
     object: u8,
 ) -> u32
-    requires { ⌜ well ≡ wellFormed (stateOf counts (now «processor_of») (now «may_read») (now «may_write») (now active) (now unlocked) (now sleeping) (now readers) (now writers) (now certified) (now request)) ⌝ }
-    ensures answer { λ r. ⌜ r ≡ packed (step (stateOf counts (now («processor_of» .entry)) (now («may_read» .entry)) (now («may_write» .entry)) (now (active .entry)) (now (unlocked .entry)) (now (sleeping .entry)) (now (readers .entry)) (now (writers .entry)) (now (certified .entry)) (now (request .entry))) kind rank object .answer) ⌝ }
-    ensures apart { λ r. ⌜ unpacked r ≡ paper (step (stateOf counts (now («processor_of» .entry)) (now («may_read» .entry)) (now («may_write» .entry)) (now (active .entry)) (now (unlocked .entry)) (now (sleeping .entry)) (now (readers .entry)) (now (writers .entry)) (now (certified .entry)) (now (request .entry))) kind rank object .answer) ⌝ }
-    ensures next { λ _. ⌜ stateOf counts (now («processor_of» .entry)) (now («may_read» .entry)) (now («may_write» .entry)) (now (active .exit)) (now (unlocked .exit)) (now (sleeping .exit)) (now (readers .exit)) (now (writers .exit)) (now (certified .exit)) (now (request .exit))
-        ≡ step (stateOf counts (now («processor_of» .entry)) (now («may_read» .entry)) (now («may_write» .entry)) (now (active .entry)) (now (unlocked .entry)) (now (sleeping .entry)) (now (readers .entry)) (now (writers .entry)) (now (certified .entry)) (now (request .entry))) kind rank object .state ⌝ }
+    requires { ⌜ well ≡ wellFormed (stateOf counts (now «processor_of») (now «may_read») (now «may_write») (now active) (now unlocked) (now sleeping) (now holder) (now readers) (now writers) (now certified) (now request)) ⌝ }
+    ensures answer { λ r. ⌜ r ≡ packed (step (stateOf counts (now («processor_of» .entry)) (now («may_read» .entry)) (now («may_write» .entry)) (now (active .entry)) (now (unlocked .entry)) (now (sleeping .entry)) (now (holder .entry)) (now (readers .entry)) (now (writers .entry)) (now (certified .entry)) (now (request .entry))) kind rank object .answer) ⌝ }
+    ensures apart { λ r. ⌜ unpacked r ≡ paper (step (stateOf counts (now («processor_of» .entry)) (now («may_read» .entry)) (now («may_write» .entry)) (now (active .entry)) (now (unlocked .entry)) (now (sleeping .entry)) (now (holder .entry)) (now (readers .entry)) (now (writers .entry)) (now (certified .entry)) (now (request .entry))) kind rank object .answer) ⌝ }
+    ensures next { λ _. ⌜ stateOf counts (now («processor_of» .entry)) (now («may_read» .entry)) (now («may_write» .entry)) (now (active .exit)) (now (unlocked .exit)) (now (sleeping .exit)) (now (holder .exit)) (now (readers .exit)) (now (writers .exit)) (now (certified .exit)) (now (request .exit))
+        ≡ step (stateOf counts (now («processor_of» .entry)) (now («may_read» .entry)) (now («may_write» .entry)) (now (active .entry)) (now (unlocked .entry)) (now (sleeping .entry)) (now (holder .entry)) (now (readers .entry)) (now (writers .entry)) (now (certified .entry)) (now (request .entry))) kind rank object .state ⌝ }
 {
     let answer = act_known(
         well,
@@ -144,6 +149,7 @@ pub fn act_packed<'a>(
         active,
         unlocked,
         sleeping,
+        holder,
         readers,
         writers,
         certified,
@@ -164,6 +170,7 @@ pub fn act<'a>(
     active: &mut RankSet,
     unlocked: &mut RankSet,
     sleeping: &mut RankSet,
+    holder: &mut u8,
     readers: SetsMut,
     writers: SetsMut,
     certified: &mut ObjectMarks,
@@ -172,8 +179,8 @@ pub fn act<'a>(
     rank: u8,
     object: u8,
 ) -> Answer
-    ensures { λ r. ⌜ outcome r (stateOf counts (now («processor_of» .entry)) (now («may_read» .entry)) (now («may_write» .entry)) (now (active .exit)) (now (unlocked .exit)) (now (sleeping .exit)) (now (readers .exit)) (now (writers .exit)) (now (certified .exit)) (now (request .exit)))
-        ≡ step (stateOf counts (now («processor_of» .entry)) (now («may_read» .entry)) (now («may_write» .entry)) (now (active .entry)) (now (unlocked .entry)) (now (sleeping .entry)) (now (readers .entry)) (now (writers .entry)) (now (certified .entry)) (now (request .entry))) kind rank object ⌝ }
+    ensures { λ r. ⌜ outcome r (stateOf counts (now («processor_of» .entry)) (now («may_read» .entry)) (now («may_write» .entry)) (now (active .exit)) (now (unlocked .exit)) (now (sleeping .exit)) (now (holder .exit)) (now (readers .exit)) (now (writers .exit)) (now (certified .exit)) (now (request .exit)))
+        ≡ step (stateOf counts (now («processor_of» .entry)) (now («may_read» .entry)) (now («may_write» .entry)) (now (active .entry)) (now (unlocked .entry)) (now (sleeping .entry)) (now (holder .entry)) (now (readers .entry)) (now (writers .entry)) (now (certified .entry)) (now (request .entry))) kind rank object ⌝ }
 {
     let well = fits(
         counts,
@@ -183,6 +190,7 @@ pub fn act<'a>(
         *active,
         *unlocked,
         *sleeping,
+        *holder,
         readers,
         writers,
         certified,
@@ -197,6 +205,7 @@ pub fn act<'a>(
         active,
         unlocked,
         sleeping,
+        holder,
         readers,
         writers,
         certified,
@@ -218,6 +227,7 @@ fn answer_each<'a>(
     active: &mut RankSet,
     unlocked: &mut RankSet,
     sleeping: &mut RankSet,
+    holder: &mut u8,
     readers: SetsMut,
     writers: SetsMut,
     certified: &mut ObjectMarks,
@@ -225,10 +235,10 @@ fn answer_each<'a>(
     events: &[u8],
     answers: &mut [u32],
 )
-    requires { ⌜ Tested well (stateOf counts (now «processor_of») (now «may_read») (now «may_write») (now active) (now unlocked) (now sleeping) (now readers) (now writers) (now certified) (now request)) × (length (now events) ≤ 3 * length (now answers)) ⌝ }
-    ensures answers { λ _. ⌜ now (answers .exit) ≡ sets (now (answers .entry)) 0 (answersTo (stateOf counts (now («processor_of» .entry)) (now («may_read» .entry)) (now («may_write» .entry)) (now (active .entry)) (now (unlocked .entry)) (now (sleeping .entry)) (now (readers .entry)) (now (writers .entry)) (now (certified .entry)) (now (request .entry))) (now (events .entry))) ⌝ }
-    ensures state { λ _. ⌜ stateOf counts (now («processor_of» .entry)) (now («may_read» .entry)) (now («may_write» .entry)) (now (active .exit)) (now (unlocked .exit)) (now (sleeping .exit)) (now (readers .exit)) (now (writers .exit)) (now (certified .exit)) (now (request .exit))
-        ≡ stateAfter (stateOf counts (now («processor_of» .entry)) (now («may_read» .entry)) (now («may_write» .entry)) (now (active .entry)) (now (unlocked .entry)) (now (sleeping .entry)) (now (readers .entry)) (now (writers .entry)) (now (certified .entry)) (now (request .entry))) (now (events .entry)) ⌝ }
+    requires { ⌜ Tested well (stateOf counts (now «processor_of») (now «may_read») (now «may_write») (now active) (now unlocked) (now sleeping) (now holder) (now readers) (now writers) (now certified) (now request)) × (length (now events) ≤ 3 * length (now answers)) ⌝ }
+    ensures answers { λ _. ⌜ now (answers .exit) ≡ sets (now (answers .entry)) 0 (answersTo (stateOf counts (now («processor_of» .entry)) (now («may_read» .entry)) (now («may_write» .entry)) (now (active .entry)) (now (unlocked .entry)) (now (sleeping .entry)) (now (holder .entry)) (now (readers .entry)) (now (writers .entry)) (now (certified .entry)) (now (request .entry))) (now (events .entry))) ⌝ }
+    ensures state { λ _. ⌜ stateOf counts (now («processor_of» .entry)) (now («may_read» .entry)) (now («may_write» .entry)) (now (active .exit)) (now (unlocked .exit)) (now (sleeping .exit)) (now (holder .exit)) (now (readers .exit)) (now (writers .exit)) (now (certified .exit)) (now (request .exit))
+        ≡ stateAfter (stateOf counts (now («processor_of» .entry)) (now («may_read» .entry)) (now («may_write» .entry)) (now (active .entry)) (now (unlocked .entry)) (now (sleeping .entry)) (now (holder .entry)) (now (readers .entry)) (now (writers .entry)) (now (certified .entry)) (now (request .entry))) (now (events .entry)) ⌝ }
 {
     let mut at = 0;
     let mut i = 0;
@@ -242,6 +252,7 @@ fn answer_each<'a>(
             active,
             unlocked,
             sleeping,
+            holder,
             readers,
             writers,
             certified,
@@ -265,6 +276,7 @@ pub fn act_each<'a>(
     active: &mut RankSet,
     unlocked: &mut RankSet,
     sleeping: &mut RankSet,
+    holder: &mut u8,
     readers: SetsMut,
     writers: SetsMut,
     certified: &mut ObjectMarks,
@@ -273,10 +285,10 @@ pub fn act_each<'a>(
     answers: &mut [u32],
 ) -> usize
     ensures number { λ r. ⌜ r ≡ eventCount (now (events .entry)) (now (answers .entry)) ⌝ }
-    ensures answers { λ r. ⌜ now (answers .exit) ≡ answersTo (stateOf counts (now («processor_of» .entry)) (now («may_read» .entry)) (now («may_write» .entry)) (now (active .entry)) (now (unlocked .entry)) (now (sleeping .entry)) (now (readers .entry)) (now (writers .entry)) (now (certified .entry)) (now (request .entry))) (wholeEvents (now (events .entry)) (now (answers .entry)))
+    ensures answers { λ r. ⌜ now (answers .exit) ≡ answersTo (stateOf counts (now («processor_of» .entry)) (now («may_read» .entry)) (now («may_write» .entry)) (now (active .entry)) (now (unlocked .entry)) (now (sleeping .entry)) (now (holder .entry)) (now (readers .entry)) (now (writers .entry)) (now (certified .entry)) (now (request .entry))) (wholeEvents (now (events .entry)) (now (answers .entry)))
         ++ drop (eventCount (now (events .entry)) (now (answers .entry))) (now (answers .entry)) ⌝ }
-    ensures state { λ r. ⌜ stateOf counts (now («processor_of» .entry)) (now («may_read» .entry)) (now («may_write» .entry)) (now (active .exit)) (now (unlocked .exit)) (now (sleeping .exit)) (now (readers .exit)) (now (writers .exit)) (now (certified .exit)) (now (request .exit))
-        ≡ stateAfter (stateOf counts (now («processor_of» .entry)) (now («may_read» .entry)) (now («may_write» .entry)) (now (active .entry)) (now (unlocked .entry)) (now (sleeping .entry)) (now (readers .entry)) (now (writers .entry)) (now (certified .entry)) (now (request .entry))) (wholeEvents (now (events .entry)) (now (answers .entry))) ⌝ }
+    ensures state { λ r. ⌜ stateOf counts (now («processor_of» .entry)) (now («may_read» .entry)) (now («may_write» .entry)) (now (active .exit)) (now (unlocked .exit)) (now (sleeping .exit)) (now (holder .exit)) (now (readers .exit)) (now (writers .exit)) (now (certified .exit)) (now (request .exit))
+        ≡ stateAfter (stateOf counts (now («processor_of» .entry)) (now («may_read» .entry)) (now («may_write» .entry)) (now (active .entry)) (now (unlocked .entry)) (now (sleeping .entry)) (now (holder .entry)) (now (readers .entry)) (now (writers .entry)) (now (certified .entry)) (now (request .entry))) (wholeEvents (now (events .entry)) (now (answers .entry))) ⌝ }
 {
     let count = smaller(events.len() / 3, answers.len());
     let used = 3 * count;
@@ -288,6 +300,7 @@ pub fn act_each<'a>(
         *active,
         *unlocked,
         *sleeping,
+        *holder,
         readers,
         writers,
         certified,
@@ -302,6 +315,7 @@ pub fn act_each<'a>(
         active,
         unlocked,
         sleeping,
+        holder,
         readers,
         writers,
         certified,
@@ -319,6 +333,7 @@ pub fn event(state: State, kind: u8, rank: u8, object: u8) -> Outcome
     let mut active = state.active;
     let mut unlocked = state.unlocked;
     let mut sleeping = state.sleeping;
+    let mut holder = state.holder;
     let mut readers = state.readers;
     let mut writers = state.writers;
     let mut certified = state.certified;
@@ -331,6 +346,7 @@ pub fn event(state: State, kind: u8, rank: u8, object: u8) -> Outcome
         &mut active,
         &mut unlocked,
         &mut sleeping,
+        &mut holder,
         &mut readers,
         &mut writers,
         &mut certified,
@@ -343,6 +359,7 @@ pub fn event(state: State, kind: u8, rank: u8, object: u8) -> Outcome
     next.active = active;
     next.unlocked = unlocked;
     next.sleeping = sleeping;
+    next.holder = holder;
     next.readers = readers;
     next.writers = writers;
     next.certified = certified;

@@ -44,6 +44,7 @@ pub fn page(state: State, buf: &mut [u8]) -> PageAnswer
         state.active,
         state.unlocked,
         state.sleeping,
+        state.holder,
         &state.readers,
         &state.writers,
         &state.certified,
@@ -61,6 +62,7 @@ pub fn write_page<'a>(
     active: RankSet,
     unlocked: RankSet,
     sleeping: RankSet,
+    holder: u8,
     readers: Sets<'a>,
     writers: Sets<'a>,
     certified: &'a ObjectMarks,
@@ -68,9 +70,9 @@ pub fn write_page<'a>(
     buf: &mut [u8],
 ) -> PageAnswer
     ensures { λ r. ⌜ (pageReply r ≡ P.writePage (stateOf counts (now («processor_of» .entry)) (now («may_read» .entry)) (now («may_write» .entry))
-        active unlocked sleeping (now (readers .entry)) (now (writers .entry)) (now (certified .entry)) (now (request .entry))) (now (buf .entry)))
+        active unlocked sleeping holder (now (readers .entry)) (now (writers .entry)) (now (certified .entry)) (now (request .entry))) (now (buf .entry)))
         × (now (buf .exit) ≡ P.pageWritten (stateOf counts (now («processor_of» .entry)) (now («may_read» .entry)) (now («may_write» .entry))
-        active unlocked sleeping (now (readers .entry)) (now (writers .entry)) (now (certified .entry)) (now (request .entry))) (now (buf .entry))) ⌝ }
+        active unlocked sleeping holder (now (readers .entry)) (now (writers .entry)) (now (certified .entry)) (now (request .entry))) (now (buf .entry))) ⌝ }
 {
     let well = fits_sized(
         counts,
@@ -80,6 +82,7 @@ pub fn write_page<'a>(
         active,
         unlocked,
         sleeping,
+        holder,
         readers,
         writers,
         certified,
@@ -100,6 +103,7 @@ pub fn write_page<'a>(
         may_write,
         active,
         sleeping,
+        holder,
         readers,
         writers,
         certified,
@@ -117,6 +121,7 @@ fn lay_page<'a>(
     may_write: Sets<'a>,
     active: RankSet,
     sleeping: RankSet,
+    holder: u8,
     readers: Sets<'a>,
     writers: Sets<'a>,
     certified: &'a ObjectMarks,

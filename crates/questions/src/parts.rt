@@ -26,6 +26,7 @@ pub fn ask_inherited_rank<'a>(
     active: RankSet,
     unlocked: RankSet,
     sleeping: RankSet,
+    holder: u8,
     readers: Sets<'a>,
     writers: Sets<'a>,
     certified: &'a ObjectMarks,
@@ -33,7 +34,7 @@ pub fn ask_inherited_rank<'a>(
     rank: u8,
 ) -> RankAnswer
     ensures { λ r. ⌜ r ≡ Q.askInheritedRank (stateOf counts (now («processor_of» .entry)) (now («may_read» .entry)) (now («may_write» .entry))
-        active unlocked sleeping (now (readers .entry)) (now (writers .entry)) (now (certified .entry)) (now (request .entry))) rank ⌝ }
+        active unlocked sleeping holder (now (readers .entry)) (now (writers .entry)) (now (certified .entry)) (now (request .entry))) rank ⌝ }
 {
     let well = fits(
         counts,
@@ -43,6 +44,7 @@ pub fn ask_inherited_rank<'a>(
         active,
         unlocked,
         sleeping,
+        holder,
         readers,
         writers,
         certified,
@@ -73,6 +75,7 @@ pub fn ask_named_lock<'a>(
     active: RankSet,
     unlocked: RankSet,
     sleeping: RankSet,
+    holder: u8,
     readers: Sets<'a>,
     writers: Sets<'a>,
     certified: &'a ObjectMarks,
@@ -80,7 +83,7 @@ pub fn ask_named_lock<'a>(
     rank: u8,
 ) -> NamedAnswer
     ensures { λ r. ⌜ r ≡ Q.askNamedLock (stateOf counts (now («processor_of» .entry)) (now («may_read» .entry)) (now («may_write» .entry))
-        active unlocked sleeping (now (readers .entry)) (now (writers .entry)) (now (certified .entry)) (now (request .entry))) rank ⌝ }
+        active unlocked sleeping holder (now (readers .entry)) (now (writers .entry)) (now (certified .entry)) (now (request .entry))) rank ⌝ }
 {
     let well = fits(
         counts,
@@ -90,6 +93,7 @@ pub fn ask_named_lock<'a>(
         active,
         unlocked,
         sleeping,
+        holder,
         readers,
         writers,
         certified,
@@ -123,6 +127,7 @@ pub fn ask_ceilings<'a>(
     active: RankSet,
     unlocked: RankSet,
     sleeping: RankSet,
+    holder: u8,
     readers: Sets<'a>,
     writers: Sets<'a>,
     certified: &'a ObjectMarks,
@@ -130,7 +135,7 @@ pub fn ask_ceilings<'a>(
     object: u8,
 ) -> CeilingsAnswer
     ensures { λ r. ⌜ r ≡ Q.askCeilings (stateOf counts (now («processor_of» .entry)) (now («may_read» .entry)) (now («may_write» .entry))
-        active unlocked sleeping (now (readers .entry)) (now (writers .entry)) (now (certified .entry)) (now (request .entry))) object ⌝ }
+        active unlocked sleeping holder (now (readers .entry)) (now (writers .entry)) (now (certified .entry)) (now (request .entry))) object ⌝ }
 {
     let well = fits(
         counts,
@@ -140,6 +145,7 @@ pub fn ask_ceilings<'a>(
         active,
         unlocked,
         sleeping,
+        holder,
         readers,
         writers,
         certified,
@@ -166,6 +172,7 @@ pub fn ask_running<'a>(
     active: RankSet,
     unlocked: RankSet,
     sleeping: RankSet,
+    holder: u8,
     readers: Sets<'a>,
     writers: Sets<'a>,
     certified: &'a ObjectMarks,
@@ -173,7 +180,7 @@ pub fn ask_running<'a>(
     processor: u8,
 ) -> RankAnswer
     ensures { λ r. ⌜ r ≡ Q.askRunning (stateOf counts (now («processor_of» .entry)) (now («may_read» .entry)) (now («may_write» .entry))
-        active unlocked sleeping (now (readers .entry)) (now (writers .entry)) (now (certified .entry)) (now (request .entry))) processor ⌝ }
+        active unlocked sleeping holder (now (readers .entry)) (now (writers .entry)) (now (certified .entry)) (now (request .entry))) processor ⌝ }
 {
     let well = fits(
         counts,
@@ -183,6 +190,7 @@ pub fn ask_running<'a>(
         active,
         unlocked,
         sleeping,
+        holder,
         readers,
         writers,
         certified,
@@ -197,6 +205,7 @@ pub fn ask_running<'a>(
         processor_of,
         active,
         sleeping,
+        holder,
         may_read,
         may_write,
         readers,

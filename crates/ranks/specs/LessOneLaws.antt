@@ -9,7 +9,7 @@ use native.Mathlib.Omega.{arith}
 use lib.Bits.{bitAnd, and-step, or-step, and-self, and-zero-l, and-zero-r, or-zero-l}
 use borrow.Author.Tests.{eqb-true, eq-eqb, lt-ltb}
 use Rattle.basics.specs.Choice.{same-test, and-true, and-left, and-right, or-right}
-use Rattle.ranks.specs.Ranks.{wordBits, isEmpty, union, butFirst, subset, disjoint, atMostOne, upTo, lessOne}
+use Rattle.ranks.specs.Ranks.{wordBits, isEmpty, union, common, butFirst, subset, disjoint, atMostOne, upTo, lessOne}
 use Rattle.ranks.specs.UnionLaws.{le-union, subset-union, subset-up-to, but-first-at-most-one, empty-at-most-one, below-power}
 
 -- what a number's last bit says of the number less one
@@ -80,7 +80,7 @@ only-one (suc k) a b h p i j = go (only-one k (a / 2) (b / 2) (omega (arith, pow
     go rest (suc d) e = first-odd a b p i j rest (omega arith)
 
 -- the set less one of a set that has a rank
-less-one-some : (n : ℕ) → 0 < n → lessOne n ≡ n - 1
+pub less-one-some : (n : ℕ) → 0 < n → lessOne n ≡ n - 1
 unfolding lessOne
 less-one-some zero p = absurd (omega arith)
 less-one-some (suc n) p = omega arith
@@ -125,10 +125,12 @@ module _ (a b : ℕ) (fits : a < 2 ^ wordBits) where
   pub less-one-alone : Told ≡ OneOrNone
   less-one-alone = same-test Told OneOrNone (λ t. told-alone t (eq-zero-or-pos b)) (λ o. alone-told o (eq-zero-or-pos b))
 
+-- what a set has in common with itself less one
+pub common-less-one : (set : ℕ) → common set (lessOne set) ≡ butFirst set
+unfolding lessOne
+common-less-one zero = and-zero-l (upTo wordBits) ∙ sym (and-zero-l (0 - 1))
+common-less-one (suc n) = let less : n ≡ suc n - 1 = omega arith in ap (bitAnd (suc n)) less
+
 -- a set is apart from itself less one if and only if it has at most one rank
 pub less-one-at-most-one : (set : ℕ) → disjoint set (lessOne set) ≡ atMostOne set
-unfolding lessOne
-less-one-at-most-one zero = eq-eqb (bitAnd 0 (upTo wordBits)) 0 (and-zero-l (upTo wordBits)) ∙ sym empty-at-most-one
-less-one-at-most-one (suc n) =
-    let less : n ≡ suc n - 1 = omega arith in
-    ap (λ (m : ℕ). isEmpty (bitAnd (suc n) m)) less ∙ but-first-at-most-one (suc n)
+less-one-at-most-one set = ap isEmpty (common-less-one set) ∙ but-first-at-most-one set

@@ -14,8 +14,8 @@ use lib.Dec.{eqb}
 use lib.Bits.{bitAnd, bitOr, bitXor, differ, and-le-l, or-lt, xor-lt, xor-self}
 use lib.Count.{ones, trailingZeros, trailing-le, trailing-of-zero}
 use borrow.Author.Tests.{eqb-true, eqb-false, eq-eqb, ne-eqb, leb-true, le-leb}
-use Rattle.basics.specs.Choice.{clash}
-use Rattle.ranks.specs.Ranks.{bit, member, with, without, first, minus, subset, disjoint, atMostOne}
+use Rattle.basics.specs.Choice.{clash, same-test, and-true, and-left, and-right}
+use Rattle.ranks.specs.Ranks.{bit, member, with, without, first, common, minus, subset, disjoint, atMostOne}
 use Rattle.ranks.specs.Bits.{bit-lt, zero-bit, high-bit, and-bit, or-bit, xor-bit, single-same, single-other, same-bits}
 use Rattle.ranks.specs.Bits.{trailing-below, trailing-set, trailing-lt, ones-one, one-ones}
 
@@ -99,6 +99,18 @@ member-without-other set (suc i) (suc j) d =
     let none : bit (bitAnd set (2 ^ i)) j ≡ 0 = omega (arith, and-bit set (2 ^ i) j, single-other i j (λ e. d (ap suc e))) in
     same-bit (bitXor set (bitAnd set (2 ^ i))) set j
     (xor-bit set (bitAnd set (2 ^ i)) j ∙ ap (differ (bit set j)) none ∙ differ-zero (bit set j))
+
+-- a rank of both sets
+pub member-common : (a b r : ℕ) → member (common a b) r ≡ member a r && member b r
+member-common a b zero = member-zero (common a b) ∙ ap (λ (t : Bool). t && member b 0) (sym (member-zero a))
+member-common a b (suc i) =
+    same-test (member (common a b) (suc i)) (member a (suc i) && member b (suc i))
+    (λ m. let both = member-bit (common a b) i m in
+    and-true (member a (suc i)) (member b (suc i))
+    (bit-member a i (omega (arith, both, and-bit a b i, bit-lt a i))) (bit-member b i (omega (arith, both, and-bit a b i, bit-lt b i))))
+    (λ t. let ma = member-bit a i (and-left (member a (suc i)) (member b (suc i)) t) in
+    let mb = member-bit b i (and-right (member a (suc i)) (member b (suc i)) t) in
+    bit-member (common a b) i (omega (arith, and-bit a b i, ma, mb)))
 
 -- a rank of one set that is not of the other
 pub member-minus : (a b r : ℕ) → member (minus a b) r ≡ member a r && not (member b r)

@@ -6,6 +6,7 @@ use Prim.Native.Nat.{ℕ, zero, suc, _+_, _-_, _/_, _%_, _^_}
 use lib.Dec.{leb, eqb}
 use lib.Bits.{bitAnd, bitOr, bitXor}
 use lib.Count.{ones, trailingZeros}
+use Rattle.basics.specs.Choice.{if_then_else_}
 
 -- the bits of a word, and so the largest rank of a set that is one (01: "Sets of ranks fit 64 bits")
 abbrev pub wordBits : ℕ
@@ -34,6 +35,10 @@ without set (suc i) = bitXor set (bitAnd set (2 ^ i))
 -- the least member of a set of ranks up to k, and k + 1 where it has none
 unfoldable pub first : ℕ → ℕ → ℕ
 first k set = trailingZeros k set + 1
+
+-- the most urgent rank of a set, 0 if it has none
+unfoldable pub mostUrgent : ℕ → ℕ
+mostUrgent set = if isEmpty set then 0 else first wordBits set
 
 abbrev pub union : ℕ → ℕ → ℕ
 union a b = bitOr a b
@@ -69,6 +74,10 @@ upTo k = 2 ^ k - 1
 unfoldable pub lessOne : ℕ → ℕ
 lessOne zero = upTo wordBits
 lessOne (suc n) = n
+
+-- the ranks before the set's first; of the empty set all ranks of a word
+abbrev pub before : ℕ → ℕ
+before set = minus (lessOne set) set
 
 -- the sets f 1, .., f n together
 unfoldable pub unions : ℕ → (ℕ → ℕ) → ℕ

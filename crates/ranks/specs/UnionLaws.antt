@@ -17,7 +17,7 @@ use Rattle.basics.specs.Choice.{clash, same-test, and-true, and-left, and-right
 use Rattle.basics.specs.Loops.{every, sum, oneIf, sum-same, sum-first}
 use Rattle.ranks.specs.Ranks.{bit, member, first, union, minus, butFirst, subset, size, atMostOne, upTo, unions}
 use Rattle.ranks.specs.Bits.{bit-lt, bit-zero, bit-suc, or-bit, same-bits, trailing-set, trailing-lt, ones-pos}
-use Rattle.ranks.specs.RankLaws.{member-bit, bit-member, member-zero, subset-member, member-subset, first-least, first-member, first-le}
+use Rattle.ranks.specs.RankLaws.{member-bit, bit-member, member-zero, member-empty, subset-member, member-subset, first-least, first-member, first-le}
 
 -- ---- the members of two sets together
 
@@ -164,6 +164,28 @@ member-unions (suc n) f r i e a b =
       | yes q ↦ ap (λ (k : ℕ). member (f k) r) q ∙ neither-right (member (unions n f) r) (member (f (suc n)) r) both
       | no d ↦ member-unions n f r i (neither-left (member (unions n f) r) (member (f (suc n)) r) both) a (omega arith)
     ]
+
+-- a rank of one of them is in all of them together
+pub in-unions : (n : ℕ) (f : ℕ → ℕ) (r i : ℕ) → 1 ≤ i → i ≤ n → member (f i) r ≡ true → member (unions n f) r ≡ true
+in-unions n f r i a b m = go (member (unions n f) r) refl
+  where
+    go : (t : Bool) → member (unions n f) r ≡ t → member (unions n f) r ≡ true
+    go true e = e
+    go false e = absurd (clash m (member-unions n f r i e a b))
+
+-- a rank of all of them together is in one of them
+pub unions-in : (n : ℕ) (f : ℕ → ℕ) (r : ℕ) → member (unions n f) r ≡ true → (i : ℕ) × (1 ≤ i) × (i ≤ n) × (member (f i) r ≡ true)
+unfolding unions
+unions-in zero f r m = absurd (clash m (member-empty r))
+unions-in (suc n) f r m = elim (union-either (unions n f) (f (suc n)) r m) [
+  | inl p ↦ (let rest = unions-in n f r p in (rest .0, rest .1, omega (arith, rest .2), rest .3))
+  | inr p ↦ (suc n, omega arith, omega arith, p)
+]
+
+pub unions-lt : (k n : ℕ) (f : ℕ → ℕ) → ((i : ℕ) → 1 ≤ i → i ≤ n → f i < 2 ^ k) → unions n f < 2 ^ k
+unfolding unions
+unions-lt k zero f h = pow-pos k
+unions-lt k (suc n) f h = union-lt k (unions n f) (f (suc n)) (unions-lt k n f (λ i a b. h i a (omega arith))) (h (suc n) (omega arith) (omega arith))
 
 pub unions-empty : (n : ℕ) (f : ℕ → ℕ) → eqb (unions n f) 0 ≡ every n (λ i. eqb (f i) 0)
 unfolding unions every

@@ -47,6 +47,13 @@ pub fn first(set: RankSet) -> u8
     (u64::trailing_zeros(set) + 1) as u8
 }
 
+// The most urgent rank of the set; 0 where it is empty.
+pub fn most_urgent(set: RankSet) -> u8
+    ensures { λ r. ⌜ r ≡ R.mostUrgent set ⌝ }
+{
+    if set == 0 { 0 } else { first(set) }
+}
+
 // The ranks of both sets together.
 pub fn union(a: RankSet, b: RankSet) -> RankSet
     ensures { λ r. ⌜ r ≡ R.union a b ⌝ }
@@ -80,6 +87,20 @@ pub fn less_one(set: RankSet) -> RankSet
     ensures { λ r. ⌜ r ≡ R.lessOne set ⌝ }
 {
     std::num::wrapping_sub_u64(set, 1)
+}
+
+// The ranks before the set's first; all ranks where it is empty.
+pub fn before(set: RankSet) -> RankSet
+    ensures { λ r. ⌜ r ≡ R.before set ⌝ }
+{
+    minus(less_one(set), set)
+}
+
+// The set without its first rank.
+pub fn but_first(set: RankSet) -> RankSet
+    ensures { λ r. ⌜ r ≡ R.butFirst set ⌝ }
+{
+    common(set, less_one(set))
 }
 
 // The ranks from 1 to the count.

@@ -31,6 +31,7 @@ fn lay_answered<'a>(
     active: &mut RankSet,
     unlocked: &mut RankSet,
     sleeping: &mut RankSet,
+    holder: &mut u8,
     readers: SetsMut,
     writers: SetsMut,
     certified: &mut ObjectMarks,
@@ -42,11 +43,11 @@ fn lay_answered<'a>(
     rank: u8,
     object: u8,
 ) -> usize
-    requires { ⌜ (well ≡ wellFormed (stateOf counts (now «processor_of») (now «may_read») (now «may_write») (now active) (now unlocked) (now sleeping) (now readers) (now writers) (now certified) (now request))) × (at + 45 ≤ length (now buf)) ⌝ }
-    ensures { λ r. ⌜ (stateOf counts (now («processor_of» .entry)) (now («may_read» .entry)) (now («may_write» .entry)) (now (active .exit)) (now (unlocked .exit)) (now (sleeping .exit)) (now (readers .exit)) (now (writers .exit)) (now (certified .exit)) (now (request .exit))
-        ≡ step (stateOf counts (now («processor_of» .entry)) (now («may_read» .entry)) (now («may_write» .entry)) (now (active .entry)) (now (unlocked .entry)) (now (sleeping .entry)) (now (readers .entry)) (now (writers .entry)) (now (certified .entry)) (now (request .entry))) kind rank object .state)
+    requires { ⌜ (well ≡ wellFormed (stateOf counts (now «processor_of») (now «may_read») (now «may_write») (now active) (now unlocked) (now sleeping) (now holder) (now readers) (now writers) (now certified) (now request))) × (at + 45 ≤ length (now buf)) ⌝ }
+    ensures { λ r. ⌜ (stateOf counts (now («processor_of» .entry)) (now («may_read» .entry)) (now («may_write» .entry)) (now (active .exit)) (now (unlocked .exit)) (now (sleeping .exit)) (now (holder .exit)) (now (readers .exit)) (now (writers .exit)) (now (certified .exit)) (now (request .exit))
+        ≡ step (stateOf counts (now («processor_of» .entry)) (now («may_read» .entry)) (now («may_write» .entry)) (now (active .entry)) (now (unlocked .entry)) (now (sleeping .entry)) (now (holder .entry)) (now (readers .entry)) (now (writers .entry)) (now (certified .entry)) (now (request .entry))) kind rank object .state)
         × Laid (now (buf .entry)) (now (buf .exit)) at r 45 (eventLine (counts .version) number kind rank object
-        (step (stateOf counts (now («processor_of» .entry)) (now («may_read» .entry)) (now («may_write» .entry)) (now (active .entry)) (now (unlocked .entry)) (now (sleeping .entry)) (now (readers .entry)) (now (writers .entry)) (now (certified .entry)) (now (request .entry))) kind rank object .answer)) ⌝ }
+        (step (stateOf counts (now («processor_of» .entry)) (now («may_read» .entry)) (now («may_write» .entry)) (now (active .entry)) (now (unlocked .entry)) (now (sleeping .entry)) (now (holder .entry)) (now (readers .entry)) (now (writers .entry)) (now (certified .entry)) (now (request .entry))) kind rank object .answer)) ⌝ }
 {
     let answer = act_known(
         well,
@@ -57,6 +58,7 @@ fn lay_answered<'a>(
         active,
         unlocked,
         sleeping,
+        holder,
         readers,
         writers,
         certified,
@@ -79,6 +81,7 @@ fn lay_each<'a>(
     active: &mut RankSet,
     unlocked: &mut RankSet,
     sleeping: &mut RankSet,
+    holder: &mut u8,
     readers: SetsMut,
     writers: SetsMut,
     certified: &mut ObjectMarks,
@@ -87,11 +90,11 @@ fn lay_each<'a>(
     events: u64,
     bytes: &[u8],
 ) -> usize
-    requires { ⌜ Tested well (stateOf counts (now «processor_of») (now «may_read») (now «may_write») (now active) (now unlocked) (now sleeping) (now readers) (now writers) (now certified) (now request)) × (15 * length (now bytes) ≤ length (now buf)) × (events + length (now bytes) / 3 < 2 ^ 64) ⌝ }
-    ensures { λ r. ⌜ (stateOf counts (now («processor_of» .entry)) (now («may_read» .entry)) (now («may_write» .entry)) (now (active .exit)) (now (unlocked .exit)) (now (sleeping .exit)) (now (readers .exit)) (now (writers .exit)) (now (certified .exit)) (now (request .exit))
-        ≡ stateAfter (stateOf counts (now («processor_of» .entry)) (now («may_read» .entry)) (now («may_write» .entry)) (now (active .entry)) (now (unlocked .entry)) (now (sleeping .entry)) (now (readers .entry)) (now (writers .entry)) (now (certified .entry)) (now (request .entry))) (now (bytes .entry)))
+    requires { ⌜ Tested well (stateOf counts (now «processor_of») (now «may_read») (now «may_write») (now active) (now unlocked) (now sleeping) (now holder) (now readers) (now writers) (now certified) (now request)) × (15 * length (now bytes) ≤ length (now buf)) × (events + length (now bytes) / 3 < 2 ^ 64) ⌝ }
+    ensures { λ r. ⌜ (stateOf counts (now («processor_of» .entry)) (now («may_read» .entry)) (now («may_write» .entry)) (now (active .exit)) (now (unlocked .exit)) (now (sleeping .exit)) (now (holder .exit)) (now (readers .exit)) (now (writers .exit)) (now (certified .exit)) (now (request .exit))
+        ≡ stateAfter (stateOf counts (now («processor_of» .entry)) (now («may_read» .entry)) (now («may_write» .entry)) (now (active .entry)) (now (unlocked .entry)) (now (sleeping .entry)) (now (holder .entry)) (now (readers .entry)) (now (writers .entry)) (now (certified .entry)) (now (request .entry))) (now (bytes .entry)))
         × Laid (now (buf .entry)) (now (buf .exit)) 0 r (15 * length (now (bytes .entry)))
-        (eventLines (stateOf counts (now («processor_of» .entry)) (now («may_read» .entry)) (now («may_write» .entry)) (now (active .entry)) (now (unlocked .entry)) (now (sleeping .entry)) (now (readers .entry)) (now (writers .entry)) (now (certified .entry)) (now (request .entry))) events (now (bytes .entry))) ⌝ }
+        (eventLines (stateOf counts (now («processor_of» .entry)) (now («may_read» .entry)) (now («may_write» .entry)) (now (active .entry)) (now (unlocked .entry)) (now (sleeping .entry)) (now (holder .entry)) (now (readers .entry)) (now (writers .entry)) (now (certified .entry)) (now (request .entry))) events (now (bytes .entry))) ⌝ }
 {
     let mut at = 0;
     let mut end = 0;
@@ -107,6 +110,7 @@ fn lay_each<'a>(
             active,
             unlocked,
             sleeping,
+            holder,
             readers,
             writers,
             certified,
@@ -133,6 +137,7 @@ pub fn lay_events<'a>(
     active: &mut RankSet,
     unlocked: &mut RankSet,
     sleeping: &mut RankSet,
+    holder: &mut u8,
     readers: SetsMut,
     writers: SetsMut,
     certified: &mut ObjectMarks,
@@ -142,10 +147,10 @@ pub fn lay_events<'a>(
     bytes: &[u8],
 ) -> usize
     requires { ⌜ (15 * length (now bytes) ≤ length (now buf)) × (events + length (now bytes) / 3 < 2 ^ 64) ⌝ }
-    ensures { λ r. ⌜ (stateOf counts (now («processor_of» .entry)) (now («may_read» .entry)) (now («may_write» .entry)) (now (active .exit)) (now (unlocked .exit)) (now (sleeping .exit)) (now (readers .exit)) (now (writers .exit)) (now (certified .exit)) (now (request .exit))
-        ≡ stateAfter (stateOf counts (now («processor_of» .entry)) (now («may_read» .entry)) (now («may_write» .entry)) (now (active .entry)) (now (unlocked .entry)) (now (sleeping .entry)) (now (readers .entry)) (now (writers .entry)) (now (certified .entry)) (now (request .entry))) (now (bytes .entry)))
+    ensures { λ r. ⌜ (stateOf counts (now («processor_of» .entry)) (now («may_read» .entry)) (now («may_write» .entry)) (now (active .exit)) (now (unlocked .exit)) (now (sleeping .exit)) (now (holder .exit)) (now (readers .exit)) (now (writers .exit)) (now (certified .exit)) (now (request .exit))
+        ≡ stateAfter (stateOf counts (now («processor_of» .entry)) (now («may_read» .entry)) (now («may_write» .entry)) (now (active .entry)) (now (unlocked .entry)) (now (sleeping .entry)) (now (holder .entry)) (now (readers .entry)) (now (writers .entry)) (now (certified .entry)) (now (request .entry))) (now (bytes .entry)))
         × Laid (now (buf .entry)) (now (buf .exit)) 0 r (15 * length (now (bytes .entry)))
-        (eventLines (stateOf counts (now («processor_of» .entry)) (now («may_read» .entry)) (now («may_write» .entry)) (now (active .entry)) (now (unlocked .entry)) (now (sleeping .entry)) (now (readers .entry)) (now (writers .entry)) (now (certified .entry)) (now (request .entry))) events (now (bytes .entry))) ⌝ }
+        (eventLines (stateOf counts (now («processor_of» .entry)) (now («may_read» .entry)) (now («may_write» .entry)) (now (active .entry)) (now (unlocked .entry)) (now (sleeping .entry)) (now (holder .entry)) (now (readers .entry)) (now (writers .entry)) (now (certified .entry)) (now (request .entry))) events (now (bytes .entry))) ⌝ }
 {
     let well = fits_sized(
         counts,
@@ -155,6 +160,7 @@ pub fn lay_events<'a>(
         *active,
         *unlocked,
         *sleeping,
+        *holder,
         readers,
         writers,
         certified,
@@ -169,6 +175,7 @@ pub fn lay_events<'a>(
         active,
         unlocked,
         sleeping,
+        holder,
         readers,
         writers,
         certified,

@@ -15,7 +15,7 @@ use Rattle.rule.specs.Granting.{namedKeyOf, namedKey, reasonOf, reason, 
 
 -- a state with these counts, declarations, locks and requests
 abbrev pub waitsState : Counts → List ℕ → List ℕ → List ℕ → List ℕ → List ℕ → List ℕ → State
-waitsState counts mayRead mayWrite readers writers certified request = stateOf counts [] mayRead mayWrite 0 0 0 readers writers certified request
+waitsState counts mayRead mayWrite readers writers certified request = stateOf counts [] mayRead mayWrite 0 0 0 0 readers writers certified request
 
 -- a state's parts
 abbrev pub waitsOf : State → State

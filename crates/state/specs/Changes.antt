@@ -9,10 +9,10 @@ use native.Mathlib.Omega.{arith}
 use native.Mathlib.Decide.{ℕ-discrete}
 use lib.Dec.{eqb}
 use borrow.Author.Tests.{eq-eqb, ne-eqb}
-use Rattle.basics.specs.Choice.{if_then_else_}
+use Rattle.basics.specs.Choice.{if_then_else_, clash}
 use Rattle.basics.specs.Arrays.{at, put, at-put-same, at-put-other, at-mapped}
 use Rattle.ranks.specs.Ranks.{member, with, without}
-use Rattle.ranks.specs.RankLaws.{member-with-other, member-without-same, member-without-other, with-lt, without-lt}
+use Rattle.ranks.specs.RankLaws.{member-with-same, member-with-other, member-without-same, member-without-other, with-lt, without-lt}
 use Rattle.state.specs.declared.State.{State}
 use Rattle.state.specs.State.{mostJobs, mostObjects, read, write, certify, marked, mark, holders, holds, isCertified, isActive, hasUnlocked, isSleeping, requestOf, requestFor}
 use Rattle.state.specs.State.{withLocks, withSleepers}
@@ -24,7 +24,7 @@ use Rattle.state.specs.WellFormedFacts.{active-rank}
 
 -- the locks of t over the table of s: every change of s is of this form
 abbrev pub overTable : State → State → State
-overTable s t = withLocks s (t .active) (t .unlocked) (t .sleeping) (t .readers) (t .writers) (t .certified) (t .request)
+overTable s t = withLocks s (t .active) (t .unlocked) (t .sleeping) (t .holder) (t .readers) (t .writers) (t .certified) (t .request)
 
 -- t says of job x what s says
 pub record Same (s t : State) (x : ℕ) : Type 0 where
@@ -55,6 +55,23 @@ other-locks s t r o jobs objects marks x p = elim (ℕ-discrete r x) [
   | no d ↦ inl (record { locks = λ m. jobs x d .locks m p; certified = jobs x d .certified p })
 ]
 
+-- ---- members of a set that one rank was put into or taken out of
+
+pub with-in : (set r x : ℕ) → In (with set r) x → (r ≡ x) ⊎ In set x
+with-in set r x i = elim (ℕ-discrete r x) [ yes e ↦ inl e | no d ↦ inr (sym (member-with-other set r x d) ∙ i) ]
+
+pub without-in : (set r x : ℕ) → In (without set r) x → In set x × (r ≢ x)
+without-in set r x i = elim (ℕ-discrete r x) [
+  | yes e ↦ absurd (clash i (rw (← e) (member-without-same set r)))
+  | no d ↦ (sym (member-without-other set r x d) ∙ i, d)
+]
+
+pub with-grows : (set r x : ℕ) → 1 ≤ r → In set x → In (with set r) x
+with-grows set r x low i = elim (ℕ-discrete r x) [
+  | yes e ↦ subst (λ n. In (with set r) n) e (member-with-same set r low)
+  | no d ↦ member-with-other set r x d ∙ i
+]
+
 -- ---- the holders of an object after a grant to r in mode m
 
 -- r joins the readers, or leaves them for the writers
@@ -65,7 +82,7 @@ abbrev pub writersAfter : (m r writers : ℕ) → ℕ
 writersAfter m r writers = if eqb m read then writers else with writers r
 
 module _ (m r v : ℕ) where
-  readers-after-other : (x : ℕ) → r ≢ x → member (readersAfter m r v) x ≡ member v x
+  pub readers-after-other : (x : ℕ) → r ≢ x → member (readersAfter m r v) x ≡ member v x
   readers-after-other x d = go (eqb m read)
     where
       go : (b : Bool) → member (if b then with v r else without v r) x ≡ member v x
@@ -167,7 +184,7 @@ module _ (s : State) (r : ℕ) (Z : Sized s) (o : ℕ) (low : 1 ≤ o) (high : o
 
 -- ---- the end of a run
 
-without-none : (r : ℕ) → without 0 r ≡ 0
+pub without-none : (r : ℕ) → without 0 r ≡ 0
 unfolding without
 without-none zero = refl
 without-none (suc i) = refl

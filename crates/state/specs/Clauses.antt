@@ -1,4 +1,4 @@
--- The twelve clauses of a well-formed state, taken apart and put together.
+-- The fourteen clauses of a well-formed state, taken apart and put together.
 -- Assumes nothing.
 use mathlib.Core.Path.{_≡_}
 use mathlib.Core.Bool.{true, _&&_}
@@ -7,7 +7,7 @@ use Rattle.basics.specs.Choice.{between, and-left, and-right, between-true, ins
 use Rattle.state.specs.declared.Counts.{Counts}
 use Rattle.state.specs.declared.State.{State}
 use Rattle.state.specs.State.{mostJobs, mostObjects, mostProcessors}
-use Rattle.state.specs.WellFormed.{countsWithin, countsFit, processorsFit, declarationsFit, aboveIdle, locksFit, oneLockEach, writersAlone, waitsFit, marksFit, versionFits, certifiesFit, sleepersFit, wellFormed}
+use Rattle.state.specs.WellFormed.{countsWithin, countsFit, processorsFit, declarationsFit, aboveIdle, locksFit, oneLockEach, writersAlone, waitsFit, marksFit, versionFits, certifiesFit, sleepersFit, holderFits, holdersInOrder, wellFormed}
 
 pub record Clauses (s : State) : Type 0 where
   pub counts : countsFit s ≡ true
@@ -22,6 +22,8 @@ pub record Clauses (s : State) : Type 0 where
   pub version : versionFits s ≡ true
   pub certifies : certifiesFit s ≡ true
   pub sleepers : sleepersFit s ≡ true
+  pub holder : holderFits s ≡ true
+  pub order : holdersInOrder s ≡ true
 
 pub clauses : (s : State) → wellFormed s ≡ true → Clauses s
 unfolding wellFormed
@@ -37,7 +39,11 @@ clauses s w =
     let c9 = c8 && marksFit s in
     let c10 = c9 && versionFits s in
     let c11 = c10 && certifiesFit s in
-    let w11 = and-left c11 (sleepersFit s) w in
+    let c12 = c11 && sleepersFit s in
+    let c13 = c12 && holderFits s in
+    let w13 = and-left c13 (holdersInOrder s) w in
+    let w12 = and-left c12 (holderFits s) w13 in
+    let w11 = and-left c11 (sleepersFit s) w12 in
     let w10 = and-left c10 (certifiesFit s) w11 in
     let w9 = and-left c9 (versionFits s) w10 in
     let w8 = and-left c8 (marksFit s) w9 in
@@ -59,12 +65,14 @@ clauses s w =
       marks = and-right c8 (marksFit s) w9;
       version = and-right c9 (versionFits s) w10;
       certifies = and-right c10 (certifiesFit s) w11;
-      sleepers = and-right c11 (sleepersFit s) w;
+      sleepers = and-right c11 (sleepersFit s) w12;
+      holder = and-right c12 (holderFits s) w13;
+      order = and-right c13 (holdersInOrder s) w;
     }
 
 pub well-formed : (s : State) → Clauses s → wellFormed s ≡ true
 unfolding wellFormed
-well-formed s c = simp (c .counts, c .processors, c .declarations, c .above, c .locks, c .once, c .alone, c .waits, c .marks, c .version, c .certifies, c .sleepers)
+well-formed s c = simp (c .counts, c .processors, c .declarations, c .above, c .locks, c .once, c .alone, c .waits, c .marks, c .version, c .certifies, c .sleepers, c .holder, c .order)
 
 -- ---- counts within their limits
 

@@ -8,7 +8,8 @@ use Prim.Native.Nat.{ℕ, _^_, _≤_, _<_}
 use lib.ListN.{length}
 use Rattle.ranks.specs.Ranks.{member}
 use Rattle.state.specs.declared.State.{State}
-use Rattle.state.specs.State.{mostJobs, mostObjects, markWords, read, write, certify, strongest, isObject, processorOf, declared, holders, isCertified, sharesWithNone, holdsAlready}
+use Rattle.state.specs.State.{mostJobs, mostObjects, markWords, read, write, certify, strongest, isObject, processorOf, declared, holders, mostUrgentHolder, isCertified, sharesWithNone, holdsAlready}
+use Rattle.state.specs.Weights.{weight}
 use Rattle.state.specs.State.{hasUnlocked, isSleeping, requestOf, requestedMode, requestedObject}
 use Rattle.state.specs.Clauses.{Within}
 
@@ -53,6 +54,10 @@ pub record RequestFacts (s : State) (m r o : ℕ) : Type 0 where
   -- "a job waiting to certify holds the write lock"
   pub before : m ≡ certify → In (holders s write o) r
 
+-- "of two holders the more urgent one is more urgent than every weight the other holds": a holds p, and b, which is less urgent, o
+abbrev pub InOrder : State → Type 0
+InOrder s = (a n p b m o : ℕ) → In (holders s n p) a → In (holders s m o) b → a < b → a < weight s m b o
+
 pub record Facts (s : State) : Type 0 where
   pub sized : Sized s
   -- "counts, processors and declarations within limits"
@@ -71,3 +76,6 @@ pub record Facts (s : State) : Type 0 where
   pub sleepers : (r : ℕ) → In (s .sleeping) r → In (s .active) r
   pub sleepers-jobs : s .sleeping < 2 ^ s .counts .jobs
   pub version : (1 ≤ s .counts .version) × (s .counts .version ≤ 2)
+  -- 02, CR 9: "the carried rank is true"
+  pub carried : s .holder ≡ mostUrgentHolder (s .readers) (s .writers)
+  pub order : InOrder s

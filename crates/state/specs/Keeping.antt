@@ -15,32 +15,18 @@ use Rattle.basics.specs.Arrays.{put, length-put, length-mapped}
 use Rattle.ranks.specs.Ranks.{member, with, without}
 use Rattle.ranks.specs.RankLaws.{member-with-same, member-with-other, member-without-same, member-without-other, with-lt, without-lt}
 use Rattle.state.specs.declared.State.{State}
-use Rattle.state.specs.State.{mostJobs, mostObjects, markWords, read, write, certify, mark, declared, holders, holds, isCertified, sharesWithNone, holdsAlready, isActive, isSleeping}
+use Rattle.state.specs.State.{mostJobs, mostObjects, markWords, read, write, certify, mark, declared, holders, holds, mostUrgentHolder, isCertified, sharesWithNone, holdsAlready, isActive, isSleeping}
 use Rattle.state.specs.State.{requestOf, requestFor, modeOfRequest, objectOfRequest, requestedMode, requestedObject, withSleepers, activate, await, grant, release, fallAsleep, awaken, endRun}
-use Rattle.state.specs.Facts.{Sized, In, Alone, LockFacts, RequestFacts, Facts}
+use Rattle.state.specs.Facts.{Sized, In, Alone, LockFacts, RequestFacts, InOrder, Facts}
+use Rattle.state.specs.Weights.{weight, writeCeiling, absoluteCeiling}
+use Rattle.state.specs.Holders.{HolderFacts, AboveOthers, holder-facts, own-weight, release-holders, end-run-holders}
 use Rattle.state.specs.Modes.{either-mode}
 use Rattle.state.specs.Marks.{length-mark, length-drop}
 use Rattle.state.specs.WellFormedFacts.{held-object}
+use Rattle.state.specs.Changes.{with-in, without-in, with-grows}
 use Rattle.state.specs.Changes.{overTable, Same, object-fits, readersAfter, writersAfter, readers-after-lt, writers-after-lt, activate-same, sleepers-same}
 use Rattle.state.specs.Changes.{await-same, await-request, grant-request, end-request, end-holders, end-mark-kept, end-mark-gone, end-same}
 use Rattle.state.specs.Changes.{release-either, release-others, release-same, grant-readers, grant-writers, grant-others, grant-mark-kept, grant-mark-other, grant-same}
-
--- ---- members of a set that one rank was put into or taken out of
-
-pub with-in : (set r x : ℕ) → In (with set r) x → (r ≡ x) ⊎ In set x
-with-in set r x i = elim (ℕ-discrete r x) [ yes e ↦ inl e | no d ↦ inr (sym (member-with-other set r x d) ∙ i) ]
-
-pub without-in : (set r x : ℕ) → In (without set r) x → In set x × (r ≢ x)
-without-in set r x i = elim (ℕ-discrete r x) [
-  | yes e ↦ absurd (clash i (rw (← e) (member-without-same set r)))
-  | no d ↦ (sym (member-without-other set r x d) ∙ i, d)
-]
-
-pub with-grows : (set r x : ℕ) → 1 ≤ r → In set x → In (with set r) x
-with-grows set r x low i = elim (ℕ-discrete r x) [
-  | yes e ↦ subst (λ n. In (with set r) n) e (member-with-same set r low)
-  | no d ↦ member-with-other set r x d ∙ i
-]
 
 or-mono : (a : Bool) {b c : Bool} → (b ≡ true → c ≡ true) → a || b ≡ true → a || c ≡ true
 or-mono true f e = refl
@@ -88,6 +74,14 @@ module _ (s t : State) where
     before = λ q. S .locks write o ∙ A .before q;
   }
 
+  -- a lock weighs what it weighed where its object is certified as it was
+  kept-weight : (x m o : ℕ) → (In (holders s write o) x → isCertified t o ≡ isCertified s o) → In (holders s m o) x → weight (overTable s t) m x o ≡ weight s m x o
+  unfolding weight
+  kept-weight x m o mark i =
+      either-mode (λ f. In (f (holders s read o) (holders s write o)) x
+      → f (weight (overTable s t) read x o) (weight (overTable s t) write x o) ≡ f (weight s read x o) (weight s write x o))
+      (λ j. refl) (λ j. ap (λ b. if eqb (s .counts .version) 1 || b then absoluteCeiling s o else writeCeiling s o) (mark j)) m i
+
   module _ (F : Facts s) where
     same-waits : (x : ℕ) → Same s t x → requestOf t x ≢ 0 → RequestFacts (overTable s t) (requestedMode t x) x (requestedObject t x)
     same-waits x S d =
@@ -99,8 +93,8 @@ module _ (s t : State) where
         → length (t .request) ≡ mostJobs → ((o : ℕ) → LockFacts (overTable s t) o) → t .active < 2 ^ s .counts .jobs → t .unlocked < 2 ^ s .counts .jobs
         → ((x : ℕ) → In (t .unlocked) x → In (t .active) x) → t .sleeping < 2 ^ s .counts .jobs → ((x : ℕ) → In (t .sleeping) x → In (t .active) x)
         → (requestOf t r ≢ 0 → RequestFacts (overTable s t) (requestedMode t r) r (requestedObject t r))
-        → ((x : ℕ) → r ≢ x → Same s t x) → Facts (overTable s t)
-    keep r long-readers long-writers long-certified long-request locks active unlocked marks sleeping sleepers waits same = record {
+        → ((x : ℕ) → r ≢ x → Same s t x) → t .holder ≡ mostUrgentHolder (t .readers) (t .writers) → InOrder (overTable s t) → Facts (overTable s t)
+    keep r long-readers long-writers long-certified long-request locks active unlocked marks sleeping sleepers waits same carried order = record {
       sized = record {
         processor-of = F .sized .processor-of;
         may-read = F .sized .may-read;
@@ -125,6 +119,8 @@ module _ (s t : State) where
       sleepers = sleepers;
       sleepers-jobs = sleeping;
       version = F .version;
+      carried = carried;
+      order = order;
     }
 
 -- ---- the changes, one by one
@@ -141,24 +137,25 @@ module _ (s : State) (F : Facts s) (r : ℕ) (low : 1 ≤ r) (high : r ≤ s .co
   kept-mark o e = (e, F .locks o .certified e .1)
 
   pub activate-keeps : isActive s r ≡ false → Facts (activate s r)
-  unfolding activate
+  unfolding activate weight
   activate-keeps idle =
       keep s (activate s r) F r (F .sized .readers) (F .sized .writers) (F .sized .certified) (F .sized .request)
       (λ o. fewer-locks s (activate s r) o (F .locks o .jobs) (λ m x i. (i, grows x)) (kept-mark o) (F .locks o))
       (with-lt (s .counts .jobs) (s .active) r (F .active-jobs) high) (F .marks-jobs) (λ x i. grows x (F .marks x i))
       (F .sleepers-jobs) (λ x i. grows x (F .sleepers x i))
-      (λ d. absurd (clash (F .requests r d .active) idle)) (activate-same s r)
+      (λ d. absurd (clash (F .requests r d .active) idle)) (activate-same s r) (F .carried) (F .order)
     where
       grows : (x : ℕ) → In (s .active) x → In (with (s .active) r) x
       grows x = with-grows (s .active) r x low
 
   pub await-keeps : (m o : ℕ) → RequestFacts s m r o → Facts (await s m r o)
-  unfolding await
+  unfolding await weight
   await-keeps m o A =
       keep s (await s m r o) F r (F .sized .readers) (F .sized .writers) (F .sized .certified)
       (length-put (s .request) r (requestFor m o) ∙ F .sized .request)
       (λ p. fewer-locks s (await s m r o) p (F .locks p .jobs) (λ n x i. (i, λ j. j)) (kept-mark p) (F .locks p))
-      (F .active-jobs) (F .marks-jobs) (F .marks) (F .sleepers-jobs) (F .sleepers) (λ d. waits) (await-same s r m o)
+      (F .active-jobs) (F .marks-jobs) (F .marks) (F .sleepers-jobs) (F .sleepers) (λ d. waits) (await-same s r m o) (F .carried)
+      (F .order)
     where
       -- the request holds the mode and the object
       waits : RequestFacts (await s m r o) (modeOfRequest (requestOf (await s m r o) r)) r (objectOfRequest (requestOf (await s m r o) r))
@@ -182,10 +179,12 @@ module _ (s : State) (F : Facts s) (r : ℕ) (low : 1 ≤ r) (high : r ≤ s .co
   -- other sleepers, of whom r alone is new or missing
   sleepers-keep : (z : ℕ) → z < 2 ^ s .counts .jobs → ((x : ℕ) → In z x → In (s .active) x) → requestOf s r ≡ 0
       → ((x : ℕ) → r ≢ x → member z x ≡ isSleeping s x) → Facts (withSleepers s z)
+  unfolding weight
   sleepers-keep z small active free same =
       keep s (withSleepers s z) F r (F .sized .readers) (F .sized .writers) (F .sized .certified) (F .sized .request)
       (λ o. fewer-locks s (withSleepers s z) o (F .locks o .jobs) (λ m x i. (i, λ j. j)) (kept-mark o) (F .locks o))
       (F .active-jobs) (F .marks-jobs) (F .marks) small active (λ d. absurd (d free)) (λ x d. sleepers-same s z x (same x d))
+      (F .carried) (F .order)
 
   pub fall-asleep-keeps : isActive s r ≡ true → requestOf s r ≡ 0 → Facts (fallAsleep s r)
   unfolding fallAsleep
@@ -212,7 +211,8 @@ module _ (s : State) (F : Facts s) (r : ℕ) (low : 1 ≤ r) (high : r ≤ s .co
       (λ p. fewer-locks s (release s r o) p (λ m. part p m .0) (λ m x i. (part p m .1 x i, λ j. j)) (kept-mark p) (F .locks p))
       (F .active-jobs) (with-lt (s .counts .jobs) (s .unlocked) r (F .marks-jobs) high)
       (λ x i. elim (with-in (s .unlocked) r x i) [ inl e ↦ subst (λ y. In (s .active) y) e active | inr j ↦ F .marks x j ])
-      (F .sleepers-jobs) (F .sleepers) (λ d. absurd (d free)) (release-same s r Z o a b)
+      (F .sleepers-jobs) (F .sleepers) (λ d. absurd (d free)) (release-same s r Z o a b) refl
+      (release-holders s (holder-facts s F) r o a b .order)
     where
       part : (p m : ℕ) → Part (holders (release s r o) m p) (holders s m p)
       part p m = elim (ℕ-discrete o p) [
@@ -237,7 +237,7 @@ module _ (s : State) (F : Facts s) (r : ℕ) (low : 1 ≤ r) (high : r ≤ s .co
       (λ x i. (let z = without-in (s .unlocked) r x i in stays x (z .1) (F .marks x (z .0))))
       (without-lt (s .counts .jobs) (s .sleeping) r (F .sleepers-jobs))
       (λ x i. (let z = without-in (s .sleeping) r x i in stays x (z .1) (F .sleepers x (z .0))))
-      (λ d. absurd (d (end-request s F r low high))) (end-same s F r)
+      (λ d. absurd (d (end-request s F r low high))) (end-same s F r) refl (end-run-holders s (holder-facts s F) r .order)
     where
       stays : (x : ℕ) → r ≢ x → In (s .active) x → In (without (s .active) r) x
       stays x d i = member-without-other (s .active) r x d ∙ i
@@ -418,14 +418,40 @@ module _ (s : State) (F : Facts s) (r : ℕ) (low : 1 ≤ r) (high : r ≤ s .co
             let w = F .locks p .certified before .1 in
             (before, (w .0, ap (λ v. member v (w .0)) (others write p d) ∙ w .1))
 
-    pub grant-keeps : Facts (grant s m r o)
+    -- r, which is more urgent than each lock of another job, is in order with every other holder, and they stay so
+    granted-order : AboveOthers s r → InOrder t
     unfolding grant
-    grant-keeps =
+    granted-order above a n p b k q i j l = elim (ℕ-discrete r b) [
+      | yes e ↦
+          let other : r ≢ a = λ d. omega arith in
+          let held = sym (same a other .locks n p) ∙ i in
+          absurd (omega (arith, above a n p other held, own-weight s H n a p held))
+      | no d ↦
+          let held = sym (same b d .locks k q) ∙ j in
+          let weighs = same-weight b k q d held in
+          elim (ℕ-discrete r a) [
+            | yes e ↦ omega (arith, above b k q d held)
+            | no c ↦ omega (arith, F .order a n p b k q (sym (same a c .locks n p) ∙ i) held l)
+          ]
+    ]
+      where
+        H : HolderFacts s
+        H = holder-facts s F
+
+        same : (x : ℕ) → r ≢ x → Same s (grant s m r o) x
+        same = grant-same s F r m o A
+
+        same-weight : (x k q : ℕ) → r ≢ x → In (holders s k q) x → weight t k x q ≡ weight s k x q
+        same-weight x k q d = kept-weight s (grant s m r o) x k q (same x d .certified q)
+
+    pub grant-keeps : AboveOthers s r → Facts (grant s m r o)
+    unfolding grant
+    grant-keeps above =
         keep s (grant s m r o) F r (length-put (s .readers) o (readersAfter m r (holders s read o)) ∙ F .sized .readers)
         (long (eqb m read)) (marks-long (eqb m certify)) (length-put (s .request) r 0 ∙ F .sized .request) granted-locks (F .active-jobs) (F .marks-jobs) (F .marks)
         (F .sleepers-jobs) (F .sleepers)
         (λ d. absurd (d (grant-request s F r m o A)))
-        (grant-same s F r m o A)
+        (grant-same s F r m o A) refl (granted-order above)
       where
         marks-long : (b : Bool) → length (if b then mark o (s .certified) else s .certified) ≡ markWords
         marks-long true = length-mark o (A .object .0) (object-fits s F r m o A) (s .certified) (F .sized .certified)

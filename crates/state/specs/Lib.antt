@@ -9,4 +9,5 @@ pub mod Facts
 pub mod WeightLaws
 pub mod WellFormedFacts
 pub mod Changes
+pub mod Holders
 pub mod Keeping

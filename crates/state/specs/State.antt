@@ -7,7 +7,7 @@ use lib.Dec.{eqb}
 use lib.ListN.{replicate}
 use Rattle.basics.specs.Choice.{if_then_else_, between}
 use Rattle.basics.specs.Arrays.{at, put, mapped}
-use Rattle.ranks.specs.Ranks.{member, with, without, union}
+use Rattle.ranks.specs.Ranks.{member, with, without, union, mostUrgent, unions}
 use Rattle.state.specs.declared.Counts.{Counts}
 use Rattle.state.specs.declared.State.{State}
 
@@ -98,6 +98,18 @@ holds s m r o = member (holders s m o) r
 abbrev pub holdsAny : State → ℕ → ℕ → Bool
 holdsAny s r o = holds s read r o || holds s write r o
 
+-- the ranks that hold a lock on any object, by the objects' readers and writers
+unfoldable pub allHolders : List ℕ → List ℕ → ℕ
+allHolders rs ws = unions mostObjects (λ o. union (at rs o) (at ws o))
+
+-- 02, CR 9: "the most urgent holder, 0 if none"
+abbrev pub mostUrgentHolder : List ℕ → List ℕ → ℕ
+mostUrgentHolder rs ws = mostUrgent (allHolders rs ws)
+
+-- r holds a lock on some object
+abbrev pub isHolder : State → ℕ → Bool
+isHolder s r = member (allHolders (s .readers) (s .writers)) r
+
 -- the write lock on object o is a certify lock
 abbrev pub isCertified : State → ℕ → Bool
 isCertified s o = marked (s .certified) o
@@ -156,8 +168,8 @@ requestedObject s r = objectOfRequest (requestOf s r)
 abbrev pub countsOf : (version processors jobs objects : ℕ) → Counts
 countsOf v p j o = record { version = v; processors = p; jobs = j; objects = o }
 
-abbrev pub stateOf : Counts → List ℕ → List ℕ → List ℕ → ℕ → ℕ → ℕ → List ℕ → List ℕ → List ℕ → List ℕ → State
-stateOf c ps mr mw a u z rs ws cs q = record {
+abbrev pub stateOf : Counts → List ℕ → List ℕ → List ℕ → ℕ → ℕ → ℕ → ℕ → List ℕ → List ℕ → List ℕ → List ℕ → State
+stateOf c ps mr mw a u z h rs ws cs q = record {
   counts = c;
   «processor_of» = ps;
   «may_read» = mr;
@@ -165,6 +177,7 @@ stateOf c ps mr mw a u z rs ws cs q = record {
   active = a;
   unlocked = u;
   sleeping = z;
+  holder = h;
   readers = rs;
   writers = ws;
   certified = cs;
@@ -176,25 +189,29 @@ zeros n = replicate n 0
 
 -- 01, Table bytes: "A fresh state has all 128 objects unlocked and every job idle."
 abbrev pub freshState : Counts → List ℕ → List ℕ → List ℕ → State
-freshState c ps mr mw = stateOf c ps mr mw 0 0 0 (zeros mostObjects) (zeros mostObjects) (zeros markWords) (zeros mostJobs)
+freshState c ps mr mw = stateOf c ps mr mw 0 0 0 0 (zeros mostObjects) (zeros mostObjects) (zeros markWords) (zeros mostJobs)
 
 -- 01, Refusals: a state "whose numbers are all 0"
 abbrev pub zeroState : State
 zeroState = freshState (countsOf 0 0 0 0) (zeros mostJobs) (zeros mostObjects) (zeros mostObjects)
 
--- the same table with these active jobs, marks of unlocking, sleepers, readers, writers, certified objects and requests
-abbrev pub withLocks : State → ℕ → ℕ → ℕ → List ℕ → List ℕ → List ℕ → List ℕ → State
-withLocks s a u z rs ws cs q = stateOf (s .counts) (s .«processor_of») (s .«may_read») (s .«may_write») a u z rs ws cs q
+-- the same table with these active jobs, marks of unlocking, sleepers, most urgent holder, readers, writers, certified objects and requests
+abbrev pub withLocks : State → ℕ → ℕ → ℕ → ℕ → List ℕ → List ℕ → List ℕ → List ℕ → State
+withLocks s a u z h rs ws cs q = stateOf (s .counts) (s .«processor_of») (s .«may_read») (s .«may_write») a u z h rs ws cs q
+
+-- the same where locks have been given or given up: the most urgent holder is that of the locks as they are now
+abbrev pub relocked : State → ℕ → ℕ → ℕ → List ℕ → List ℕ → List ℕ → List ℕ → State
+relocked s a u z rs ws cs q = withLocks s a u z (mostUrgentHolder rs ws) rs ws cs q
 
 -- ---- changes
 
 -- r becomes active
 unfoldable pub activate : State → ℕ → State
-activate s r = withLocks s (with (s .active) r) (s .unlocked) (s .sleeping) (s .readers) (s .writers) (s .certified) (s .request)
+activate s r = withLocks s (with (s .active) r) (s .unlocked) (s .sleeping) (s .holder) (s .readers) (s .writers) (s .certified) (s .request)
 
 -- r waits for a lock
 unfoldable pub await : State → ℕ → ℕ → ℕ → State
-await s m r o = withLocks s (s .active) (s .unlocked) (s .sleeping) (s .readers) (s .writers) (s .certified) (put (s .request) r (requestFor m o))
+await s m r o = withLocks s (s .active) (s .unlocked) (s .sleeping) (s .holder) (s .readers) (s .writers) (s .certified) (put (s .request) r (requestFor m o))
 
 -- what a grant to r in mode m on o makes of the sets of readers, and of the sets of writers
 abbrev pub grantReaders : ℕ → ℕ → ℕ → List ℕ → List ℕ
@@ -210,7 +227,7 @@ grantMarks m o words = if eqb m certify then mark o words else words
 -- r gets a lock and waits no longer; a write lock replaces its read lock, a certify lock its write lock
 unfoldable pub grant : State → ℕ → ℕ → ℕ → State
 grant s m r o =
-    withLocks s (s .active) (s .unlocked) (s .sleeping) (grantReaders m r o (s .readers)) (grantWriters m r o (s .writers)) (grantMarks m o (s .certified))
+    relocked s (s .active) (s .unlocked) (s .sleeping) (grantReaders m r o (s .readers)) (grantWriters m r o (s .writers)) (grantMarks m o (s .certified))
     (put (s .request) r 0)
 
 -- what r's unlock of o makes of the sets of readers
@@ -219,7 +236,7 @@ releaseReaders r o sets = put sets o (without (at sets o) r)
 
 -- r gives up its read lock on o, and is marked; the writers are neither looked at nor changed
 unfoldable pub release : State → ℕ → ℕ → State
-release s r o = withLocks s (s .active) (with (s .unlocked) r) (s .sleeping) (releaseReaders r o (s .readers)) (s .writers) (s .certified) (s .request)
+release s r o = relocked s (s .active) (with (s .unlocked) r) (s .sleeping) (releaseReaders r o (s .readers)) (s .writers) (s .certified) (s .request)
 
 -- r taken out of every set
 abbrev pub releaseSets : ℕ → List ℕ → List ℕ
@@ -237,7 +254,7 @@ dropMarks r writers words = keptIn r writers 0 64 (at words 1) ∷ keptIn r writ
 
 -- the same with these sleepers
 abbrev pub withSleepers : State → ℕ → State
-withSleepers s z = withLocks s (s .active) (s .unlocked) z (s .readers) (s .writers) (s .certified) (s .request)
+withSleepers s z = withLocks s (s .active) (s .unlocked) z (s .holder) (s .readers) (s .writers) (s .certified) (s .request)
 
 -- r falls asleep: 02, CR 8: "a sleeping mark, set by event 8"
 unfoldable pub fallAsleep : State → ℕ → State
@@ -250,5 +267,5 @@ awaken s r = withSleepers s (without (s .sleeping) r)
 -- r's run ends: it is idle, unmarked, awake, holds nothing and waits for nothing
 unfoldable pub endRun : State → ℕ → State
 endRun s r =
-    withLocks s (without (s .active) r) (without (s .unlocked) r) (without (s .sleeping) r) (releaseSets r (s .readers)) (releaseSets r (s .writers))
+    relocked s (without (s .active) r) (without (s .unlocked) r) (without (s .sleeping) r) (releaseSets r (s .readers)) (releaseSets r (s .writers))
     (dropMarks r (s .writers) (s .certified)) (put (s .request) r 0)

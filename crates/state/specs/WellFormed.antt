@@ -1,5 +1,5 @@
--- Well-formed states: refusal 8 of document 01, one definition for each of its clauses, in its order, with what CR 6 and CR 8 of document 02 make of them and
--- add.
+-- Well-formed states: refusal 8 of document 01, one definition for each of its clauses, in its order, with what CR 6, CR 8 and CR 9 of document 02 make of them
+-- and add.
 -- Assumes nothing.
 use Prim.Native.Nat.{ℕ, _^_}
 use mathlib.Core.Bool.{Bool, not, _&&_, _||_}
@@ -10,7 +10,8 @@ use Rattle.ranks.specs.Ranks.{isEmpty, subset, disjoint, atMostOne}
 use Rattle.state.specs.declared.Counts.{Counts}
 use Rattle.state.specs.declared.State.{State}
 use Rattle.state.specs.State.{mostJobs, mostObjects, mostProcessors, read, write, certify, isVersion, strongest, isObject, processorOf, declared, declaredAny, mayLock}
-use Rattle.state.specs.State.{holders, holdersAny, holds, isCertified, sharesWithNone, holdsAlready, isActive, hasUnlocked, isSleeping, isWaiting, requestedMode, requestedObject}
+use Rattle.state.specs.Weights.{weight}
+use Rattle.state.specs.State.{holders, holdersAny, holds, mostUrgentHolder, isHolder, isCertified, sharesWithNone, holdsAlready, isActive, hasUnlocked, isSleeping, isWaiting, requestedMode, requestedObject}
 
 -- "A table has 1 to 64 jobs, 1 to 8 processors and 1 to 128 objects."
 abbrev pub countsWithin : Counts → Bool
@@ -119,8 +120,28 @@ waitsAwake s r = not (isWaiting s r && isSleeping s r)
 unfoldable pub sleepersFit : State → Bool
 sleepersFit s = subset (s .sleeping) (s .active) && every mostJobs (waitsAwake s)
 
+-- 02, CR 9: "the carried rank is true": it is the most urgent holder's, 0 if there is none
+unfoldable pub holderFits : State → Bool
+holderFits s = eqb (s .holder) (mostUrgentHolder (s .readers) (s .writers))
+
+-- rank a is more urgent than the weight of the lock that b holds on o in mode m, if it holds it
+abbrev pub aboveLock : State → ℕ → ℕ → ℕ → ℕ → Bool
+aboveLock s a b m o = not (holds s m b o) || ltb a (weight s m b o)
+
+-- rank a is more urgent than every weight that b holds
+abbrev pub aboveLocks : State → ℕ → ℕ → Bool
+aboveLocks s a b = every (s .counts .objects) (λ o. aboveLock s a b read o && aboveLock s a b write o)
+
+-- where a and b are holders and a is the more urgent, it is more urgent than every weight that b holds
+abbrev pub inOrder : State → ℕ → ℕ → Bool
+inOrder s a b = not (isHolder s a && isHolder s b && ltb a b) || aboveLocks s a b
+
+-- "of two holders the more urgent one is more urgent than every weight the other holds"
+unfoldable pub holdersInOrder : State → Bool
+holdersInOrder s = every (s .counts .jobs) (λ b. every (s .counts .jobs) (λ a. inOrder s a b))
+
 -- 8: "the state handed in isn't well formed"
 unfoldable pub wellFormed : State → Bool
 wellFormed s =
     countsFit s && processorsFit s && declarationsFit s && aboveIdle s && locksFit s && oneLockEach s && writersAlone s && waitsFit s && marksFit s
-    && versionFits s && certifiesFit s && sleepersFit s
+    && versionFits s && certifiesFit s && sleepersFit s && holderFits s && holdersInOrder s

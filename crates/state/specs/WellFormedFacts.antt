@@ -8,7 +8,7 @@ use Prim.Native.Nat.{ℕ, _^_, _≤_, _<_}
 use native.Mathlib.Nat.{eq-zero-or-pos}
 use native.Mathlib.Omega.{arith}
 use native.Mathlib.Decide.{ℕ-discrete, decLe}
-use lib.Dec.{eqb}
+use lib.Dec.{eqb, ltb}
 use lib.Pow.{pow-pos}
 use lib.Bits.{or-add-and, and-le-l, and-le-r}
 use borrow.Author.Tests.{eqb-true, eq-eqb, ne-eqb, ltb-true, lt-ltb, not-true}
@@ -18,17 +18,18 @@ use Rattle.basics.specs.Arrays.{at, at-out}
 use Rattle.ranks.specs.Ranks.{member, first, union, subset, atMostOne}
 use Rattle.ranks.specs.RankLaws.{member-pos, member-le, member-empty, first-some, first-member, subset-member, member-subset, disjoint-member}
 use Rattle.ranks.specs.RankLaws.{member-disjoint, one-member, member-one}
-use Rattle.ranks.specs.UnionLaws.{union-left, union-right, union-either, union-lt, subset-le, empty-union}
+use Rattle.ranks.specs.UnionLaws.{union-left, union-right, union-either, union-lt, subset-le, empty-union, in-unions, unions-in}
 use Rattle.state.specs.declared.State.{State}
 use Rattle.state.specs.State.{mostJobs, mostObjects, markWords, read, write, certify, strongest, wordOf, placeOf, isObject, processorOf}
-use Rattle.state.specs.State.{declared, declaredAny, mayLock, holders, holdersAny}
+use Rattle.state.specs.State.{declared, declaredAny, mayLock, holders, holdersAny, allHolders, mostUrgentHolder, isHolder}
 use Rattle.state.specs.State.{holds, isCertified, sharesWithNone, holdsAlready, isActive, hasUnlocked, isSleeping, requestOf, requestedMode, requestedObject}
 use Rattle.state.specs.WellFormed.{processorFits, processorsFit, declarationFits, declarationsFit, ofJobs, declaredOfJobs, aboveIdle}
 use Rattle.state.specs.WellFormed.{heldByActive, heldByRight, locksFit, lockedOnce, oneLockEach, alone, writtenAlone, writersAlone}
-use Rattle.state.specs.WellFormed.{holdsBefore, mayAwait, waitFits, waitsFit, marksFit, certifyFits, certifiesFit, waitsAwake, sleepersFit, wellFormed}
+use Rattle.state.specs.WellFormed.{holdsBefore, mayAwait, waitFits, waitsFit, marksFit, certifyFits, certifiesFit, waitsAwake, sleepersFit, holderFits, aboveLock, aboveLocks, inOrder, holdersInOrder, wellFormed}
 use Rattle.state.specs.Clauses.{Clauses, clauses, well-formed, counts-within, within-counts}
 use Rattle.state.specs.Modes.{either-mode}
-use Rattle.state.specs.Facts.{Sized, In, Alone, LockFacts, RequestFacts, Facts}
+use Rattle.state.specs.Facts.{Sized, In, Alone, LockFacts, RequestFacts, InOrder, Facts}
+use Rattle.state.specs.Weights.{weight}
 
 -- nothing is in an empty set
 pub none-in : (set r : ℕ) → set ≡ 0 → In set r → ⊥
@@ -141,8 +142,34 @@ module _ (s : State) (F : Facts s) where
     | no n ↦ simp (ne-eqb (requestOf s r) 0 n, F .requests r n .awake)
   ]
 
+  -- who is among all holders holds an object
+  holder-of : (r : ℕ) → isHolder s r ≡ true → (m : ℕ) × (o : ℕ) × In (holders s m o) r
+  unfolding allHolders
+  holder-of r i =
+      let w = unions-in mostObjects (holdersAny s) r i in
+      elim (union-either (holders s read (w .0)) (holders s write (w .0)) r (w .3)) [ inl j ↦ (read, w .0, j) | inr j ↦ (write, w .0, j) ]
+
+  lock-test : (a b m o : ℕ) → (In (holders s m o) b → a < weight s m b o) → aboveLock s a b m o ≡ true
+  lock-test a b m o above = go (holds s m b o) refl
+    where
+      go : (t : Bool) → holds s m b o ≡ t → not t || ltb a (weight s m b o) ≡ true
+      go false e = refl
+      go true e = lt-ltb a (weight s m b o) (above e)
+
+  order-test : (a b : ℕ) → inOrder s a b ≡ true
+  order-test a b = go (isHolder s a && isHolder s b && ltb a b) refl
+    where
+      go : (t : Bool) → isHolder s a && isHolder s b && ltb a b ≡ t → not t || aboveLocks s a b ≡ true
+      go false e = refl
+      go true e =
+          let holding = holder-of a (and-left (isHolder s a) (isHolder s b) (and-left (isHolder s a && isHolder s b) (ltb a b) e)) in
+          let less = ltb-true a b (and-right (isHolder s a && isHolder s b) (ltb a b) e) in
+          let each : (m o : ℕ) → aboveLock s a b m o ≡ true =
+          λ m o. lock-test a b m o (λ i. F .order a (holding .0) (holding .1) b m o (holding .2) i less) in
+          every-true (s .counts .objects) _ (λ o l h. and-true _ _ (each read o) (each write o))
+
   facts-clauses : Clauses s
-  unfolding processorsFit declarationsFit oneLockEach writersAlone waitsFit marksFit certifiesFit sleepersFit
+  unfolding processorsFit declarationsFit oneLockEach writersAlone waitsFit marksFit certifiesFit sleepersFit holderFits holdersInOrder
   facts-clauses =
       record {
         counts = within-counts (s .counts) (F .counts);
@@ -159,6 +186,8 @@ module _ (s : State) (F : Facts s) where
         sleepers =
             and-true _ _ (member-subset (s .counts .jobs) (s .sleeping) (s .active) (F .sleepers-jobs) (λ r l. F .sleepers r))
             (every-true mostJobs (waitsAwake s) (λ r a b. awake-test r));
+        holder = eq-eqb (s .holder) (mostUrgentHolder (s .readers) (s .writers)) (F .carried);
+        order = every-true (s .counts .jobs) _ (λ b l h. every-true (s .counts .jobs) (λ a. inOrder s a b) (λ a l h. order-test a b));
       }
 
   pub facts-well-formed : wellFormed s ≡ true
@@ -315,8 +344,48 @@ module _ (s : State) (z : Sized s) (w : wellFormed s ≡ true) where
     | no n ↦ absurd (d (at-out (s .request) mostJobs r (z .request) n))
   ]
 
+  lock-facts : (o : ℕ) → LockFacts s o
+  lock-facts o = elim (within mostObjects o) [ yes i ↦ inside-locks o (i .0) (i .1) | no d ↦ outside-locks o d ]
+
+  lock-rank : (m r o : ℕ) → In (holders s m o) r → (1 ≤ r) × (r ≤ s .counts .jobs)
+  lock-rank m r o i = (member-pos (holders s m o) r i, member-le (s .counts .jobs) (holders s m o) r (lock-facts o .jobs m) i)
+
+  lock-object : (m r o : ℕ) → In (holders s m o) r → (1 ≤ o) × (o ≤ s .counts .objects)
+  lock-object m r o i = go (isObject s o) refl
+    where
+      go : (b : Bool) → isObject s o ≡ b → (1 ≤ o) × (o ≤ s .counts .objects)
+      go true e = between-true 1 (s .counts .objects) o e
+      go false e = absurd (none-in (declared s m o) r (objects-fact m o e) (lock-facts o .right m r i))
+
+  lock-holder : (m r o : ℕ) → In (holders s m o) r → isHolder s r ≡ true
+  unfolding allHolders
+  lock-holder m r o i =
+      let object = lock-object m r o i in
+      in-unions mostObjects (holdersAny s) r o (object .0) (omega (arith, object .1, counts-within (s .counts) (C .counts) .objects))
+      (either-mode (λ f. In (f (holders s read o) (holders s write o)) r → In (holdersAny s o) r)
+      (union-left (holders s read o) (holders s write o) r) (union-right (holders s read o) (holders s write o) r) m i)
+
+  -- of two holders that are in order, the more urgent is above each lock of the other
+  above-lock : (a b m o : ℕ) → aboveLock s a b m o ≡ true → In (holders s m o) b → a < weight s m b o
+  above-lock a b m o e i = ltb-true a (weight s m b o) (simp i at e)
+
+  order-fact : InOrder s
+  unfolding holdersInOrder weight
+  order-fact a n p b m o i j l =
+      let left = lock-rank n a p i in
+      let right = lock-rank m b o j in
+      let object = lock-object m b o j in
+      let pair = every-at (s .counts .jobs) (λ a. inOrder s a b) a
+      (every-at (s .counts .jobs) (λ b. every (s .counts .jobs) (λ a. inOrder s a b)) b (C .order) (right .0) (right .1)) (left .0) (left .1) in
+      let locks = simp (lock-holder n a p i, lock-holder m b o j, lt-ltb a b l) at pair in
+      let both = every-at (s .counts .objects) (λ o. aboveLock s a b read o && aboveLock s a b write o) o locks (object .0) (object .1) in
+      above-lock a b m o (either-mode (λ f. aboveOf f ≡ true) (and-left _ _ both) (and-right (aboveLock s a b read o) _ both) m) j
+    where
+      aboveOf : (ℕ → ℕ → ℕ) → Bool
+      aboveOf f = not (member (f (holders s read o) (holders s write o)) b) || ltb a (f (weight s read b o) (weight s write b o))
+
   pub facts : Facts s
-  unfolding processorsFit marksFit
+  unfolding processorsFit marksFit holderFits
   facts = record {
     sized = z;
     counts = counts-within (s .counts) (C .counts);
@@ -324,13 +393,15 @@ module _ (s : State) (z : Sized s) (w : wellFormed s ≡ true) where
     declared-objects = objects-fact;
     declared-jobs = declared-fact;
     active-jobs = active-fact;
-    locks = λ o. elim (within mostObjects o) [ yes i ↦ inside-locks o (i .0) (i .1) | no d ↦ outside-locks o d ];
+    locks = lock-facts;
     requests = waiting-fact;
     marks = λ r i. subset-member (s .unlocked) (s .active) r (C .marks) i;
     marks-jobs = omega (arith, subset-le (s .unlocked) (s .active) (C .marks), active-fact);
     sleepers = λ r i. subset-member (s .sleeping) (s .active) r sleepers-active i;
     sleepers-jobs = omega (arith, subset-le (s .sleeping) (s .active) sleepers-active, active-fact);
     version = between-true 1 2 (s .counts .version) (C .version);
+    carried = eqb-true (s .holder) (mostUrgentHolder (s .readers) (s .writers)) (C .holder);
+    order = order-fact;
   }
 
 -- ---- locks and waiting jobs are of the table

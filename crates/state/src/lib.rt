@@ -45,6 +45,7 @@ pub struct State {
     pub active: RankSet,
     pub unlocked: RankSet,
     pub sleeping: RankSet,
+    pub holder: u8,
     pub readers: ObjectSets,
     pub writers: ObjectSets,
     pub certified: ObjectMarks,

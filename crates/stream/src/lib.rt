@@ -81,6 +81,7 @@ fn answer(bench: Bench, count: usize, bytes: &[u8], lines: &mut [u8]) -> Advance
     let mut active = state.active;
     let mut unlocked = state.unlocked;
     let mut sleeping = state.sleeping;
+    let mut holder = state.holder;
     let mut readers = state.readers;
     let mut writers = state.writers;
     let mut certified = state.certified;
@@ -94,6 +95,7 @@ fn answer(bench: Bench, count: usize, bytes: &[u8], lines: &mut [u8]) -> Advance
         &mut active,
         &mut unlocked,
         &mut sleeping,
+        &mut holder,
         &mut readers,
         &mut writers,
         &mut certified,
@@ -106,6 +108,7 @@ fn answer(bench: Bench, count: usize, bytes: &[u8], lines: &mut [u8]) -> Advance
     next.active = active;
     next.unlocked = unlocked;
     next.sleeping = sleeping;
+    next.holder = holder;
     next.readers = readers;
     next.writers = writers;
     next.certified = certified;
@@ -140,6 +143,7 @@ pub fn unread() -> Bench
         active: ranks::EMPTY,
         unlocked: ranks::EMPTY,
         sleeping: ranks::EMPTY,
+        holder: 0,
         readers: [0; 128],
         writers: [0; 128],
         certified: [0; 2],

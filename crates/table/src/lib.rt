@@ -43,6 +43,7 @@ fn fresh_state(
         active: EMPTY,
         unlocked: EMPTY,
         sleeping: EMPTY,
+        holder: 0,
         readers: [0; 128],
         writers: [0; 128],
         certified: [0; 2],

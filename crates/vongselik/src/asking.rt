@@ -31,6 +31,7 @@ pub extern "C" fn vongselik_parts_inherited_rank<'a>(
     active: RankSet,
     unlocked: RankSet,
     sleeping: RankSet,
+    holder: u8,
     readers: Sets<'a>,
     writers: Sets<'a>,
     certified: &'a ObjectMarks,
@@ -39,9 +40,9 @@ pub extern "C" fn vongselik_parts_inherited_rank<'a>(
     inherited: &mut u8,
 ) -> u8
     ensures number { λ r. ⌜ r ≡ rankReply (Q.askInheritedRank (stateOf (countsOf version processors jobs objects) (now («processor_of» .entry)) (now («may_read» .entry)) (now («may_write» .entry))
-        active unlocked sleeping (now (readers .entry)) (now (writers .entry)) (now (certified .entry)) (now (request .entry))) rank) .refusal ⌝ }
+        active unlocked sleeping holder (now (readers .entry)) (now (writers .entry)) (now (certified .entry)) (now (request .entry))) rank) .refusal ⌝ }
     ensures inherited { λ _. ⌜ now (inherited .exit) ≡ value (rankReply (Q.askInheritedRank (stateOf (countsOf version processors jobs objects) (now («processor_of» .entry)) (now («may_read» .entry)) (now («may_write» .entry))
-        active unlocked sleeping (now (readers .entry)) (now (writers .entry)) (now (certified .entry)) (now (request .entry))) rank)) 0 (now (inherited .entry)) ⌝ }
+        active unlocked sleeping holder (now (readers .entry)) (now (writers .entry)) (now (certified .entry)) (now (request .entry))) rank)) 0 (now (inherited .entry)) ⌝ }
 {
     let counts = Counts {
         version,
@@ -57,6 +58,7 @@ pub extern "C" fn vongselik_parts_inherited_rank<'a>(
         active,
         unlocked,
         sleeping,
+        holder,
         readers,
         writers,
         certified,
@@ -85,6 +87,7 @@ pub extern "C" fn vongselik_parts_named_lock<'a>(
     active: RankSet,
     unlocked: RankSet,
     sleeping: RankSet,
+    holder: u8,
     readers: Sets<'a>,
     writers: Sets<'a>,
     certified: &'a ObjectMarks,
@@ -94,11 +97,11 @@ pub extern "C" fn vongselik_parts_named_lock<'a>(
     object: &mut u8,
 ) -> u8
     ensures number { λ r. ⌜ r ≡ namedReply (Q.askNamedLock (stateOf (countsOf version processors jobs objects) (now («processor_of» .entry)) (now («may_read» .entry)) (now («may_write» .entry))
-        active unlocked sleeping (now (readers .entry)) (now (writers .entry)) (now (certified .entry)) (now (request .entry))) rank) .refusal ⌝ }
+        active unlocked sleeping holder (now (readers .entry)) (now (writers .entry)) (now (certified .entry)) (now (request .entry))) rank) .refusal ⌝ }
     ensures holder { λ _. ⌜ now (holder .exit) ≡ value (namedReply (Q.askNamedLock (stateOf (countsOf version processors jobs objects) (now («processor_of» .entry)) (now («may_read» .entry)) (now («may_write» .entry))
-        active unlocked sleeping (now (readers .entry)) (now (writers .entry)) (now (certified .entry)) (now (request .entry))) rank)) 0 (now (holder .entry)) ⌝ }
+        active unlocked sleeping holder (now (readers .entry)) (now (writers .entry)) (now (certified .entry)) (now (request .entry))) rank)) 0 (now (holder .entry)) ⌝ }
     ensures object { λ _. ⌜ now (object .exit) ≡ value (namedReply (Q.askNamedLock (stateOf (countsOf version processors jobs objects) (now («processor_of» .entry)) (now («may_read» .entry)) (now («may_write» .entry))
-        active unlocked sleeping (now (readers .entry)) (now (writers .entry)) (now (certified .entry)) (now (request .entry))) rank)) 1 (now (object .entry)) ⌝ }
+        active unlocked sleeping holder (now (readers .entry)) (now (writers .entry)) (now (certified .entry)) (now (request .entry))) rank)) 1 (now (object .entry)) ⌝ }
 {
     let counts = Counts {
         version,
@@ -114,6 +117,7 @@ pub extern "C" fn vongselik_parts_named_lock<'a>(
         active,
         unlocked,
         sleeping,
+        holder,
         readers,
         writers,
         certified,
@@ -146,6 +150,7 @@ pub extern "C" fn vongselik_parts_ceilings<'a>(
     active: RankSet,
     unlocked: RankSet,
     sleeping: RankSet,
+    holder: u8,
     readers: Sets<'a>,
     writers: Sets<'a>,
     certified: &'a ObjectMarks,
@@ -155,11 +160,11 @@ pub extern "C" fn vongselik_parts_ceilings<'a>(
     absolute_ceiling: &mut u16,
 ) -> u8
     ensures number { λ r. ⌜ r ≡ ceilingsReply (Q.askCeilings (stateOf (countsOf version processors jobs objects) (now («processor_of» .entry)) (now («may_read» .entry)) (now («may_write» .entry))
-        active unlocked sleeping (now (readers .entry)) (now (writers .entry)) (now (certified .entry)) (now (request .entry))) object) .refusal ⌝ }
+        active unlocked sleeping holder (now (readers .entry)) (now (writers .entry)) (now (certified .entry)) (now (request .entry))) object) .refusal ⌝ }
     ensures write { λ _. ⌜ now («write_ceiling» .exit) ≡ value (ceilingsReply (Q.askCeilings (stateOf (countsOf version processors jobs objects) (now («processor_of» .entry)) (now («may_read» .entry)) (now («may_write» .entry))
-        active unlocked sleeping (now (readers .entry)) (now (writers .entry)) (now (certified .entry)) (now (request .entry))) object)) 0 (now («write_ceiling» .entry)) ⌝ }
+        active unlocked sleeping holder (now (readers .entry)) (now (writers .entry)) (now (certified .entry)) (now (request .entry))) object)) 0 (now («write_ceiling» .entry)) ⌝ }
     ensures absolute { λ _. ⌜ now («absolute_ceiling» .exit) ≡ value (ceilingsReply (Q.askCeilings (stateOf (countsOf version processors jobs objects) (now («processor_of» .entry)) (now («may_read» .entry)) (now («may_write» .entry))
-        active unlocked sleeping (now (readers .entry)) (now (writers .entry)) (now (certified .entry)) (now (request .entry))) object)) 1 (now («absolute_ceiling» .entry)) ⌝ }
+        active unlocked sleeping holder (now (readers .entry)) (now (writers .entry)) (now (certified .entry)) (now (request .entry))) object)) 1 (now («absolute_ceiling» .entry)) ⌝ }
 {
     let counts = Counts {
         version,
@@ -175,6 +180,7 @@ pub extern "C" fn vongselik_parts_ceilings<'a>(
         active,
         unlocked,
         sleeping,
+        holder,
         readers,
         writers,
         certified,
@@ -204,6 +210,7 @@ pub extern "C" fn vongselik_parts_running<'a>(
     active: RankSet,
     unlocked: RankSet,
     sleeping: RankSet,
+    holder: u8,
     readers: Sets<'a>,
     writers: Sets<'a>,
     certified: &'a ObjectMarks,
@@ -212,9 +219,9 @@ pub extern "C" fn vongselik_parts_running<'a>(
     rank: &mut u8,
 ) -> u8
     ensures number { λ r. ⌜ r ≡ rankReply (Q.askRunning (stateOf (countsOf version processors jobs objects) (now («processor_of» .entry)) (now («may_read» .entry)) (now («may_write» .entry))
-        active unlocked sleeping (now (readers .entry)) (now (writers .entry)) (now (certified .entry)) (now (request .entry))) processor) .refusal ⌝ }
+        active unlocked sleeping holder (now (readers .entry)) (now (writers .entry)) (now (certified .entry)) (now (request .entry))) processor) .refusal ⌝ }
     ensures rank { λ _. ⌜ now (rank .exit) ≡ value (rankReply (Q.askRunning (stateOf (countsOf version processors jobs objects) (now («processor_of» .entry)) (now («may_read» .entry)) (now («may_write» .entry))
-        active unlocked sleeping (now (readers .entry)) (now (writers .entry)) (now (certified .entry)) (now (request .entry))) processor)) 0 (now (rank .entry)) ⌝ }
+        active unlocked sleeping holder (now (readers .entry)) (now (writers .entry)) (now (certified .entry)) (now (request .entry))) processor)) 0 (now (rank .entry)) ⌝ }
 {
     let counts = Counts {
         version,
@@ -230,6 +237,7 @@ pub extern "C" fn vongselik_parts_running<'a>(
         active,
         unlocked,
         sleeping,
+        holder,
         readers,
         writers,
         certified,

@@ -34,6 +34,7 @@ pub extern "C" fn vongselik_parts_event<'a>(
     active: &mut RankSet,
     unlocked: &mut RankSet,
     sleeping: &mut RankSet,
+    holder: &mut u8,
     readers: SetsMut,
     writers: SetsMut,
     certified: &mut ObjectMarks,
@@ -43,13 +44,13 @@ pub extern "C" fn vongselik_parts_event<'a>(
     object: u8,
 ) -> u32
     ensures answer { λ r. ⌜ r ≡ packed (step (stateOf (countsOf version processors jobs objects) (now («processor_of» .entry)) (now («may_read» .entry)) (now («may_write» .entry))
-        (now (active .entry)) (now (unlocked .entry)) (now (sleeping .entry)) (now (readers .entry)) (now (writers .entry)) (now (certified .entry)) (now (request .entry))) kind rank object .answer) ⌝ }
+        (now (active .entry)) (now (unlocked .entry)) (now (sleeping .entry)) (now (holder .entry)) (now (readers .entry)) (now (writers .entry)) (now (certified .entry)) (now (request .entry))) kind rank object .answer) ⌝ }
     ensures apart { λ r. ⌜ unpacked r ≡ paper (step (stateOf (countsOf version processors jobs objects) (now («processor_of» .entry)) (now («may_read» .entry)) (now («may_write» .entry))
-        (now (active .entry)) (now (unlocked .entry)) (now (sleeping .entry)) (now (readers .entry)) (now (writers .entry)) (now (certified .entry)) (now (request .entry))) kind rank object .answer) ⌝ }
+        (now (active .entry)) (now (unlocked .entry)) (now (sleeping .entry)) (now (holder .entry)) (now (readers .entry)) (now (writers .entry)) (now (certified .entry)) (now (request .entry))) kind rank object .answer) ⌝ }
     ensures next { λ _. ⌜ stateOf (countsOf version processors jobs objects) (now («processor_of» .entry)) (now («may_read» .entry)) (now («may_write» .entry))
-        (now (active .exit)) (now (unlocked .exit)) (now (sleeping .exit)) (now (readers .exit)) (now (writers .exit)) (now (certified .exit)) (now (request .exit))
+        (now (active .exit)) (now (unlocked .exit)) (now (sleeping .exit)) (now (holder .exit)) (now (readers .exit)) (now (writers .exit)) (now (certified .exit)) (now (request .exit))
         ≡ step (stateOf (countsOf version processors jobs objects) (now («processor_of» .entry)) (now («may_read» .entry)) (now («may_write» .entry))
-        (now (active .entry)) (now (unlocked .entry)) (now (sleeping .entry)) (now (readers .entry)) (now (writers .entry)) (now (certified .entry)) (now (request .entry))) kind rank object .state ⌝ }
+        (now (active .entry)) (now (unlocked .entry)) (now (sleeping .entry)) (now (holder .entry)) (now (readers .entry)) (now (writers .entry)) (now (certified .entry)) (now (request .entry))) kind rank object .state ⌝ }
 {
     let counts = Counts {
         version,
@@ -65,6 +66,7 @@ pub extern "C" fn vongselik_parts_event<'a>(
         *active,
         *unlocked,
         *sleeping,
+        *holder,
         readers,
         writers,
         certified,
@@ -79,6 +81,7 @@ pub extern "C" fn vongselik_parts_event<'a>(
         active,
         unlocked,
         sleeping,
+        holder,
         readers,
         writers,
         certified,

@@ -24,6 +24,7 @@ pub extern "C" fn vongselik_parts_make_events<'a>(
     active: RankSet,
     unlocked: RankSet,
     sleeping: RankSet,
+    holder: u8,
     readers: Sets<'a>,
     writers: Sets<'a>,
     certified: &'a ObjectMarks,
@@ -33,11 +34,11 @@ pub extern "C" fn vongselik_parts_make_events<'a>(
     buffer: &mut [u8],
 ) -> u8
     ensures number { λ r. ⌜ r ≡ makeEvents (stateOf (countsOf version processors jobs objects) (now («processor_of» .entry)) (now («may_read» .entry)) (now («may_write» .entry))
-        active unlocked sleeping (now (readers .entry)) (now (writers .entry)) (now (certified .entry)) (now (request .entry))) (now (seed .entry)) count (now (buffer .entry)) .refusal ⌝ }
+        active unlocked sleeping holder (now (readers .entry)) (now (writers .entry)) (now (certified .entry)) (now (request .entry))) (now (seed .entry)) count (now (buffer .entry)) .refusal ⌝ }
     ensures seed { λ _. ⌜ now (seed .exit) ≡ makeEvents (stateOf (countsOf version processors jobs objects) (now («processor_of» .entry)) (now («may_read» .entry)) (now («may_write» .entry))
-        active unlocked sleeping (now (readers .entry)) (now (writers .entry)) (now (certified .entry)) (now (request .entry))) (now (seed .entry)) count (now (buffer .entry)) .seed ⌝ }
+        active unlocked sleeping holder (now (readers .entry)) (now (writers .entry)) (now (certified .entry)) (now (request .entry))) (now (seed .entry)) count (now (buffer .entry)) .seed ⌝ }
     ensures buffer { λ _. ⌜ now (buffer .exit) ≡ eventsMade (stateOf (countsOf version processors jobs objects) (now («processor_of» .entry)) (now («may_read» .entry)) (now («may_write» .entry))
-        active unlocked sleeping (now (readers .entry)) (now (writers .entry)) (now (certified .entry)) (now (request .entry))) (now (seed .entry)) count (now (buffer .entry)) ⌝ }
+        active unlocked sleeping holder (now (readers .entry)) (now (writers .entry)) (now (certified .entry)) (now (request .entry))) (now (seed .entry)) count (now (buffer .entry)) ⌝ }
 {
     let counts = Counts {
         version,
@@ -53,6 +54,7 @@ pub extern "C" fn vongselik_parts_make_events<'a>(
         active,
         unlocked,
         sleeping,
+        holder,
         readers,
         writers,
         certified,

@@ -25,6 +25,7 @@ pub extern "C" fn vongselik_parts_page<'a>(
     active: RankSet,
     unlocked: RankSet,
     sleeping: RankSet,
+    holder: u8,
     readers: Sets<'a>,
     writers: Sets<'a>,
     certified: &'a ObjectMarks,
@@ -33,11 +34,11 @@ pub extern "C" fn vongselik_parts_page<'a>(
     length: &mut usize,
 ) -> u8
     ensures number { λ r. ⌜ r ≡ writePage (stateOf (countsOf version processors jobs objects) (now («processor_of» .entry)) (now («may_read» .entry)) (now («may_write» .entry))
-        active unlocked sleeping (now (readers .entry)) (now (writers .entry)) (now (certified .entry)) (now (request .entry))) (now (buffer .entry)) .refusal ⌝ }
+        active unlocked sleeping holder (now (readers .entry)) (now (writers .entry)) (now (certified .entry)) (now (request .entry))) (now (buffer .entry)) .refusal ⌝ }
     ensures buffer { λ _. ⌜ now (buffer .exit) ≡ pageWritten (stateOf (countsOf version processors jobs objects) (now («processor_of» .entry)) (now («may_read» .entry)) (now («may_write» .entry))
-        active unlocked sleeping (now (readers .entry)) (now (writers .entry)) (now (certified .entry)) (now (request .entry))) (now (buffer .entry)) ⌝ }
+        active unlocked sleeping holder (now (readers .entry)) (now (writers .entry)) (now (certified .entry)) (now (request .entry))) (now (buffer .entry)) ⌝ }
     ensures length { λ _. ⌜ now (length .exit) ≡ value (writePage (stateOf (countsOf version processors jobs objects) (now («processor_of» .entry)) (now («may_read» .entry)) (now («may_write» .entry))
-        active unlocked sleeping (now (readers .entry)) (now (writers .entry)) (now (certified .entry)) (now (request .entry))) (now (buffer .entry))) 0 (now (length .entry)) ⌝ }
+        active unlocked sleeping holder (now (readers .entry)) (now (writers .entry)) (now (certified .entry)) (now (request .entry))) (now (buffer .entry))) 0 (now (length .entry)) ⌝ }
 {
     let counts = Counts {
         version,
@@ -53,6 +54,7 @@ pub extern "C" fn vongselik_parts_page<'a>(
         active,
         unlocked,
         sleeping,
+        holder,
         readers,
         writers,
         certified,

@@ -30,6 +30,7 @@ pub extern "C" fn vongselik_parts_read_table(
     active: &mut RankSet,
     unlocked: &mut RankSet,
     sleeping: &mut RankSet,
+    holder: &mut u8,
     readers: SetsMut,
     writers: SetsMut,
     certified: &mut ObjectMarks,
@@ -38,10 +39,10 @@ pub extern "C" fn vongselik_parts_read_table(
     ensures number { λ r. ⌜ r ≡ readTable (now (bytes .entry)) .refusal ⌝ }
     ensures used { λ _. ⌜ now (used .exit) ≡ usedRead (readTable (now (bytes .entry))) (now (used .entry)) ⌝ }
     ensures state { λ _. ⌜ stateOf (countsOf (now (version .exit)) (now (processors .exit)) (now (jobs .exit)) (now (objects .exit))) (now («processor_of» .exit)) (now («may_read» .exit)) (now («may_write» .exit))
-        (now (active .exit)) (now (unlocked .exit)) (now (sleeping .exit)) (now (readers .exit)) (now (writers .exit)) (now (certified .exit)) (now (request .exit))
+        (now (active .exit)) (now (unlocked .exit)) (now (sleeping .exit)) (now (holder .exit)) (now (readers .exit)) (now (writers .exit)) (now (certified .exit)) (now (request .exit))
         ≡ stateRead (readTable (now (bytes .entry)))
         (stateOf (countsOf (now (version .entry)) (now (processors .entry)) (now (jobs .entry)) (now (objects .entry))) (now («processor_of» .entry)) (now («may_read» .entry)) (now («may_write» .entry))
-        (now (active .entry)) (now (unlocked .entry)) (now (sleeping .entry)) (now (readers .entry)) (now (writers .entry)) (now (certified .entry)) (now (request .entry))) ⌝ }
+        (now (active .entry)) (now (unlocked .entry)) (now (sleeping .entry)) (now (holder .entry)) (now (readers .entry)) (now (writers .entry)) (now (certified .entry)) (now (request .entry))) ⌝ }
 {
     let read = table::read_table(bytes);
     if read.refusal != 0 {
@@ -63,6 +64,7 @@ pub extern "C" fn vongselik_parts_read_table(
     *active = next.active;
     *unlocked = next.unlocked;
     *sleeping = next.sleeping;
+    *holder = next.holder;
     let next_readers = next.readers;
     *readers = next_readers;
     let next_writers = next.writers;
@@ -87,6 +89,7 @@ pub extern "C" fn vongselik_parts_write_table<'a>(
     active: RankSet,
     unlocked: RankSet,
     sleeping: RankSet,
+    holder: u8,
     readers: Sets<'a>,
     writers: Sets<'a>,
     certified: &'a ObjectMarks,
@@ -95,11 +98,11 @@ pub extern "C" fn vongselik_parts_write_table<'a>(
     length: &mut usize,
 ) -> u8
     ensures number { λ r. ⌜ r ≡ writeTable (stateOf (countsOf version processors jobs objects) (now («processor_of» .entry)) (now («may_read» .entry)) (now («may_write» .entry))
-        active unlocked sleeping (now (readers .entry)) (now (writers .entry)) (now (certified .entry)) (now (request .entry))) (now (buffer .entry)) .refusal ⌝ }
+        active unlocked sleeping holder (now (readers .entry)) (now (writers .entry)) (now (certified .entry)) (now (request .entry))) (now (buffer .entry)) .refusal ⌝ }
     ensures buffer { λ _. ⌜ now (buffer .exit) ≡ written (stateOf (countsOf version processors jobs objects) (now («processor_of» .entry)) (now («may_read» .entry)) (now («may_write» .entry))
-        active unlocked sleeping (now (readers .entry)) (now (writers .entry)) (now (certified .entry)) (now (request .entry))) (now (buffer .entry)) ⌝ }
+        active unlocked sleeping holder (now (readers .entry)) (now (writers .entry)) (now (certified .entry)) (now (request .entry))) (now (buffer .entry)) ⌝ }
     ensures length { λ _. ⌜ now (length .exit) ≡ value (writeTable (stateOf (countsOf version processors jobs objects) (now («processor_of» .entry)) (now («may_read» .entry)) (now («may_write» .entry))
-        active unlocked sleeping (now (readers .entry)) (now (writers .entry)) (now (certified .entry)) (now (request .entry))) (now (buffer .entry))) 0 (now (length .entry)) ⌝ }
+        active unlocked sleeping holder (now (readers .entry)) (now (writers .entry)) (now (certified .entry)) (now (request .entry))) (now (buffer .entry))) 0 (now (length .entry)) ⌝ }
 {
     let counts = Counts {
         version,
@@ -115,6 +118,7 @@ pub extern "C" fn vongselik_parts_write_table<'a>(
         active,
         unlocked,
         sleeping,
+        holder,
         readers: *readers,
         writers: *writers,
         certified: *certified,

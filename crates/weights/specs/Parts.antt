@@ -16,7 +16,7 @@ use Rattle.weights.specs.ObjectKeys.{objectKeyOf, object-key-sets}
 
 -- a state with these counts, declarations and locks
 abbrev pub locksState : Counts → List ℕ → List ℕ → List ℕ → List ℕ → List ℕ → State
-locksState counts mayRead mayWrite readers writers certified = stateOf counts [] mayRead mayWrite 0 0 0 readers writers certified []
+locksState counts mayRead mayWrite readers writers certified = stateOf counts [] mayRead mayWrite 0 0 0 0 readers writers certified []
 
 -- a state's part
 abbrev pub locksOf : State → State

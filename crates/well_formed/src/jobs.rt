@@ -28,7 +28,7 @@ fn larger(a: u8, b: u8) -> u8
 // Whether each job's processor is one of the table's.
 pub fn processors_fit(counts: Counts, processor_of: &JobProcessors) -> bool
     requires { ⌜ (1 ≤ counts .processors) × (counts .jobs ≤ mostJobs) ⌝ }
-    ensures { λ r. ⌜ r ≡ processorsFit (stateOf counts (now («processor_of» .entry)) [] [] 0 0 0 [] [] [] []) ⌝ }
+    ensures { λ r. ⌜ r ≡ processorsFit (stateOf counts (now («processor_of» .entry)) [] [] 0 0 0 0 [] [] [] []) ⌝ }
 {
     let processors = counts.processors;
     let count = counts.jobs as usize;
@@ -77,7 +77,7 @@ fn may_await<'a>(
     rank: u8,
 ) -> bool
     requires { ⌜ (counts .version ≤ 2) × (counts .objects ≤ mostObjects) × (1 ≤ rank) × (rank ≤ mostJobs) ⌝ }
-    ensures { λ r. ⌜ r ≡ mayAwait (stateOf counts [] (now («may_read» .entry)) (now («may_write» .entry)) active unlocked 0 (now (readers .entry)) (now (writers .entry)) (now (certified .entry)) [])
+    ensures { λ r. ⌜ r ≡ mayAwait (stateOf counts [] (now («may_read» .entry)) (now («may_write» .entry)) active unlocked 0 0 (now (readers .entry)) (now (writers .entry)) (now (certified .entry)) [])
         (modeOfRequest request) rank (objectOfRequest request) ⌝ }
 {
     let mode = (request / 256) as u8;
@@ -113,7 +113,7 @@ fn four_fit<'a>(
     from: usize,
 ) -> bool
     requires { ⌜ (counts .version ≤ 2) × (counts .objects ≤ mostObjects) × (from + 4 ≤ mostJobs) ⌝ }
-    ensures { λ r. ⌜ r ≡ every 4 (λ k. waitFits (stateOf counts [] (now («may_read» .entry)) (now («may_write» .entry)) active unlocked 0 (now (readers .entry)) (now (writers .entry)) (now (certified .entry)) (now (request .entry))) (from + k)) ⌝ }
+    ensures { λ r. ⌜ r ≡ every 4 (λ k. waitFits (stateOf counts [] (now («may_read» .entry)) (now («may_write» .entry)) active unlocked 0 0 (now (readers .entry)) (now (writers .entry)) (now (certified .entry)) (now (request .entry))) (from + k)) ⌝ }
 {
     if none_waits(request, from, 4) {
         return true;
@@ -155,7 +155,7 @@ pub fn waits_fit<'a>(
     request: &'a JobRequests,
 ) -> bool
     requires { ⌜ (counts .version ≤ 2) × (counts .objects ≤ mostObjects) ⌝ }
-    ensures { λ r. ⌜ r ≡ waitsFit (stateOf counts [] (now («may_read» .entry)) (now («may_write» .entry)) active unlocked 0 (now (readers .entry)) (now (writers .entry)) (now (certified .entry)) (now (request .entry))) ⌝ }
+    ensures { λ r. ⌜ r ≡ waitsFit (stateOf counts [] (now («may_read» .entry)) (now («may_write» .entry)) active unlocked 0 0 (now (readers .entry)) (now (writers .entry)) (now (certified .entry)) (now (request .entry))) ⌝ }
 {
     if none_waits(request, 0, 64) {
         return true;

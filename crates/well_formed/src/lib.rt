@@ -35,13 +35,14 @@ pub fn fits<'a>(
     active: RankSet,
     unlocked: RankSet,
     sleeping: RankSet,
+    holder: u8,
     readers: Sets<'a>,
     writers: Sets<'a>,
     certified: &'a ObjectMarks,
     request: &'a JobRequests,
 ) -> bool
     ensures { λ r. ⌜ r ≡ wellFormed (stateOf counts (now («processor_of» .entry)) (now («may_read» .entry)) (now («may_write» .entry))
-        active unlocked sleeping (now (readers .entry)) (now (writers .entry)) (now (certified .entry)) (now (request .entry))) ⌝ }
+        active unlocked sleeping holder (now (readers .entry)) (now (writers .entry)) (now (certified .entry)) (now (request .entry))) ⌝ }
 {
     if !(counts_within(counts) & is_version(counts.version)) {
         return false;
@@ -110,15 +111,16 @@ pub fn fits_sized<'a>(
     active: RankSet,
     unlocked: RankSet,
     sleeping: RankSet,
+    holder: u8,
     readers: Sets<'a>,
     writers: Sets<'a>,
     certified: &'a ObjectMarks,
     request: &'a JobRequests,
 ) -> bool
     ensures { λ r. ⌜ (r ≡ wellFormed (stateOf counts (now («processor_of» .entry)) (now («may_read» .entry)) (now («may_write» .entry))
-        active unlocked sleeping (now (readers .entry)) (now (writers .entry)) (now (certified .entry)) (now (request .entry))))
+        active unlocked sleeping holder (now (readers .entry)) (now (writers .entry)) (now (certified .entry)) (now (request .entry))))
         × Sized (stateOf counts (now («processor_of» .entry)) (now («may_read» .entry)) (now («may_write» .entry))
-        active unlocked sleeping (now (readers .entry)) (now (writers .entry)) (now (certified .entry)) (now (request .entry))) ⌝ }
+        active unlocked sleeping holder (now (readers .entry)) (now (writers .entry)) (now (certified .entry)) (now (request .entry))) ⌝ }
 {
     have_lengths(
         processor_of,
@@ -137,6 +139,7 @@ pub fn fits_sized<'a>(
             active,
             unlocked,
             sleeping,
+            holder,
             readers,
             writers,
             certified,
@@ -156,6 +159,7 @@ pub fn is_well_formed(state: State) -> bool
         state.active,
         state.unlocked,
         state.sleeping,
+        state.holder,
         &state.readers,
         &state.writers,
         &state.certified,

@@ -24,7 +24,7 @@ use Rattle.refusals.proofs.certify_refusal.Reads as certify-refusal-reads
 -- the state that the parts are of, with any other parts
 abbrev whole : (c : tie.Start) → List ℕ → State
 whole c ps = let a = c .args in
-    stateOf (a .counts) ps (now (a .may-read)) (now (a .may-write)) (a .active) (a .unlocked) (a .sleeping) (now (a .readers)) (now (a .writers)) (now (a .certified)) (now (a .request))
+    stateOf (a .counts) ps (now (a .may-read)) (now (a .may-write)) (a .active) (a .unlocked) (a .sleeping) (a .holder) (now (a .readers)) (now (a .writers)) (now (a .certified)) (now (a .request))
 
 -- what is known behind the refusals: rank and object are some that the arrays have
 numbers : (c : tie.Start) → eventRefusal (whole c []) 7 (c .args .rank) (c .args .object) ≡ 0

@@ -17,7 +17,7 @@ use Rattle.events.proofs.finish.Tie as tie
 -- the state that the parts are of, with any other parts
 abbrev whole : (c : tie.Start) → List ℕ → State
 whole c ps = let a = c .args in
-    stateOf (a .counts) ps (now (a .may-read)) (now (a .may-write)) (now (a .active)) (now (a .unlocked)) (now (a .sleeping)) (now (a .readers)) (now (a .writers)) (now (a .certified)) (now (a .request))
+    stateOf (a .counts) ps (now (a .may-read)) (now (a .may-write)) (now (a .active)) (now (a .unlocked)) (now (a .sleeping)) (now (a .holder)) (now (a .readers)) (now (a .writers)) (now (a .certified)) (now (a .request))
 
 finish-refusal-requires : tie.Need-finish-refusal-requires
 finish-refusal-requires c κs = search needs

@@ -45,8 +45,8 @@ returns c =
     let b = c .before .before .before .before .before .before .before .before .before .before .before .args in
     let k = c .before .before .before .before .before .before .before .lowest-key .result in
     λ a u z ps.
-    let s = stateOf (b .counts) ps (now (b .may-read)) (now (b .may-write)) a u z (now (b .readers)) (now (b .writers)) (now (b .certified)) (now (b .request)) in
-    (λ i. outcome Granted (stateOf (b .counts) ps (now (b .may-read)) (now (b .may-write)) a u z (c .grant .ensures .0 i) (c .grant .ensures .1 i) (c .grant .ensures .2 i) (c .grant .ensures .3 i)))
+    let s = stateOf (b .counts) ps (now (b .may-read)) (now (b .may-write)) a u z h (now (b .readers)) (now (b .writers)) (now (b .certified)) (now (b .request)) in
+    (λ i. outcome Granted (stateOf (b .counts) ps (now (b .may-read)) (now (b .may-write)) a u z h (c .grant .ensures .0 i) (c .grant .ensures .1 i) (c .grant .ensures .2 i) (c .grant .ensures .3 i)))
     ∙ sym (L.granted s (b .mode) (b .rank) (b .object) k (sym (c .before .before .before .before .before .before .passes .ensures) ∙ c .before .before .before .before .before .if1 .taken))
     ∙ ap (requestMeeting s (b .mode) (b .rank) (b .object)) (c .before .before .before .before .before .before .before .lowest-key .ensures ∙ sym (lowest-key-parts s (b .rank)))
 
@@ -91,13 +91,13 @@ returns-2 c =
     let h = c .before .before .before .before .before .before .before .before .before .before .key-holder .ensures in
     let o = c .before .before .before .before .before .before .before .before .before .key-object .ensures in
     λ a u z ps.
-    let s = stateOf (b .counts) ps (now (b .may-read)) (now (b .may-write)) a u z (now (b .readers)) (now (b .writers)) (now (b .certified)) (now (b .request)) in
+    let s = stateOf (b .counts) ps (now (b .may-read)) (now (b .may-write)) a u z h (now (b .readers)) (now (b .writers)) (now (b .certified)) (now (b .request)) in
     let why : c .before .before .reason .result ≡ reason s (b .mode) (b .object) (keyHolder k) (keyObject k) =
     c .before .before .reason .ensures
     ∙ (λ i. reasonOf (b .counts .version) (b .mode) (b .object) (h i) (o i)
     ((c .before .before .before .before .before .before .before .shares-with-none .ensures ∙ ap (λ (p : ℕ). eqb (b .counts .version) 1 || marked (now (b .certified)) p) o) i) ((c .before .before .before .before .before .set-of .ensures ∙ ap (at (now (b .writers))) o) i) ((c .before .before .before .ceiling .ensures ∙ ap (ceilingOf (b .counts)) (c .before .before .before .before .set-of2 .ensures ∙ ap (at (now (b .may-write))) o)) i))
     ∙ sym (reason-parts s (b .mode) (b .object) (keyHolder k) (keyObject k)) in
-    (λ i. outcome (Waits (h i) (o i) (why i)) (stateOf (b .counts) ps (now (b .may-read)) (now (b .may-write)) a u z (now (b .readers)) (now (b .writers)) (now (b .certified)) (c .store-request .ensures i)))
+    (λ i. outcome (Waits (h i) (o i) (why i)) (stateOf (b .counts) ps (now (b .may-read)) (now (b .may-write)) a u z h (now (b .readers)) (now (b .writers)) (now (b .certified)) (c .store-request .ensures i)))
     ∙ sym (L.waits s (b .mode) (b .rank) (b .object) k (sym (c .before .before .before .before .before .before .before .before .before .before .before .before .passes .ensures) ∙ c .before .before .before .before .before .before .before .before .before .before .before .if1 .left))
     ∙ ap (requestMeeting s (b .mode) (b .rank) (b .object)) (c .before .before .before .before .before .before .before .before .before .before .before .before .before .lowest-key .ensures ∙ sym (lowest-key-parts s (b .rank)))
 

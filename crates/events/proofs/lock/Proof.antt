@@ -19,7 +19,7 @@ use Rattle.events.proofs.lock.Tie as tie
 -- the state that the parts are of, with any other parts
 abbrev whole : (c : tie.Start) → List ℕ → State
 whole c ps = let a = c .args in
-    stateOf (a .counts) ps (now (a .may-read)) (now (a .may-write)) (a .active) (a .unlocked) (a .sleeping) (now (a .readers)) (now (a .writers)) (now (a .certified)) (now (a .request))
+    stateOf (a .counts) ps (now (a .may-read)) (now (a .may-write)) (a .active) (a .unlocked) (a .sleeping) (a .holder) (now (a .readers)) (now (a .writers)) (now (a .certified)) (now (a .request))
 
 -- what is known behind the refusals: rank and object are some that the arrays have
 numbers : (c : tie.Start) → eventRefusal (whole c []) (c .args .kind) (c .args .rank) (c .args .object) ≡ 0

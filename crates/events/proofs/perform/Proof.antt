@@ -40,17 +40,17 @@ returns : tie.Need-returns
 returns c =
     let b = c .before .before .before .args in
     λ ps. c .start .ensures (now (b .unlocked)) (now (b .sleeping)) ps (now (b .may-read)) (now (b .may-write)) (now (b .readers)) (now (b .writers)) (now (b .certified)) (now (b .request))
-    ∙ ap (λ (k : ℕ). E.perform (stateOf (b .counts) ps (now (b .may-read)) (now (b .may-write)) (now (b .active)) (now (b .unlocked)) (now (b .sleeping)) (now (b .readers)) (now (b .writers)) (now (b .certified)) (now (b .request))) k (b .rank) (b .object)) (sym (c .before .before .match .keys1))
+    ∙ ap (λ (k : ℕ). E.perform (stateOf (b .counts) ps (now (b .may-read)) (now (b .may-write)) (now (b .active)) (now (b .unlocked)) (now (b .sleeping)) (now (b .holder)) (now (b .readers)) (now (b .writers)) (now (b .certified)) (now (b .request))) k (b .rank) (b .object)) (sym (c .before .before .match .keys1))
 
 returns-2 : tie.Need-returns-2
 returns-2 c =
     let b = c .before .before .before .before .before .before .before .before .before .args in
-    λ ps. c .unlock .ensures ps ∙ ap (λ (k : ℕ). E.perform (stateOf (b .counts) ps (now (b .may-read)) (now (b .may-write)) (now (b .active)) (now (b .unlocked)) (now (b .sleeping)) (now (b .readers)) (now (b .writers)) (now (b .certified)) (now (b .request))) k (b .rank) (b .object)) (sym (c .before .before .before .before .before .before .before .before .match .keys2))
+    λ ps. c .unlock .ensures ps ∙ ap (λ (k : ℕ). E.perform (stateOf (b .counts) ps (now (b .may-read)) (now (b .may-write)) (now (b .active)) (now (b .unlocked)) (now (b .sleeping)) (now (b .holder)) (now (b .readers)) (now (b .writers)) (now (b .certified)) (now (b .request))) k (b .rank) (b .object)) (sym (c .before .before .before .before .before .before .before .before .match .keys2))
 
 returns-3 : tie.Need-returns-3
 returns-3 c =
     let b = c .before .before .before .before .before .before .before .before .before .args in
-    λ ps. c .certify .ensures ps ∙ ap (λ (k : ℕ). E.perform (stateOf (b .counts) ps (now (b .may-read)) (now (b .may-write)) (now (b .active)) (now (b .unlocked)) (now (b .sleeping)) (now (b .readers)) (now (b .writers)) (now (b .certified)) (now (b .request))) k (b .rank) (b .object)) (sym (c .before .before .before .before .before .before .before .before .match .keys3))
+    λ ps. c .certify .ensures ps ∙ ap (λ (k : ℕ). E.perform (stateOf (b .counts) ps (now (b .may-read)) (now (b .may-write)) (now (b .active)) (now (b .unlocked)) (now (b .sleeping)) (now (b .holder)) (now (b .readers)) (now (b .writers)) (now (b .certified)) (now (b .request))) k (b .rank) (b .object)) (sym (c .before .before .before .before .before .before .before .before .match .keys3))
 
 returns-4 : tie.Need-returns-4
 returns-4 c = c .lock .ensures
@@ -66,12 +66,12 @@ returns-6 c =
 returns-7 : tie.Need-returns-7
 returns-7 c =
     let b = c .before .args in
-    λ ps. L.perform-unknown (stateOf (b .counts) ps (now (b .may-read)) (now (b .may-write)) (now (b .active)) (now (b .unlocked)) (now (b .sleeping)) (now (b .readers)) (now (b .writers)) (now (b .certified)) (now (b .request))) (b .kind) (b .rank) (b .object) (ap (between 1 9) (c .match .keys4))
+    λ ps. L.perform-unknown (stateOf (b .counts) ps (now (b .may-read)) (now (b .may-write)) (now (b .active)) (now (b .unlocked)) (now (b .sleeping)) (now (b .holder)) (now (b .readers)) (now (b .writers)) (now (b .certified)) (now (b .request))) (b .kind) (b .rank) (b .object) (ap (between 1 9) (c .match .keys4))
 
 returns-8 : tie.Need-returns-8
 returns-8 c =
     let b = c .before .before .before .before .args in
-    λ ps. L.perform-unknown (stateOf (b .counts) ps (now (b .may-read)) (now (b .may-write)) (now (b .active)) (now (b .unlocked)) (now (b .sleeping)) (now (b .readers)) (now (b .writers)) (now (b .certified)) (now (b .request))) (b .kind) (b .rank) (b .object) (beyond (b .kind) (omega (arith, c .if3 .left, c .before .before .before .match .rest)))
+    λ ps. L.perform-unknown (stateOf (b .counts) ps (now (b .may-read)) (now (b .may-write)) (now (b .active)) (now (b .unlocked)) (now (b .sleeping)) (now (b .holder)) (now (b .readers)) (now (b .writers)) (now (b .certified)) (now (b .request))) (b .kind) (b .rank) (b .object) (beyond (b .kind) (omega (arith, c .if3 .left, c .before .before .before .match .rest)))
 
 pub perform-spec : {M : Type 1} → statement M
 perform-spec =

@@ -23,7 +23,7 @@ use Rattle.events.proofs.sleep_or_awaken.Tie as tie
 
 -- the state that the parts are of, with any other parts
 abbrev whole : (c : tie.Start) → ℕ → List ℕ → List ℕ → List ℕ → List ℕ → List ℕ → List ℕ → State
-whole c u ps mr mw rs ws cs = let a = c .args in stateOf (a .counts) ps mr mw (a .active) u (now (a .sleeping)) rs ws cs (now (a .request))
+whole c u ps mr mw rs ws cs = let a = c .args in stateOf (a .counts) ps mr mw (a .active) u (now (a .sleeping)) (now (a .holder)) rs ws cs (now (a .request))
 
 -- the rank of an event that is not refused is one that a set can have
 numbers : (c : tie.Start) → eventRefusal (whole c 0 [] [] [] [] [] []) (c .args .kind) (c .args .rank) (c .args .object) ≡ 0

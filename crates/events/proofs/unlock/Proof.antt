@@ -19,7 +19,7 @@ use Rattle.events.proofs.unlock.Tie as tie
 -- the state that the parts are of, with any other parts
 abbrev whole : (c : tie.Start) → List ℕ → State
 whole c ps = let a = c .args in
-    stateOf (a .counts) ps (now (a .may-read)) (now (a .may-write)) (a .active) (now (a .unlocked)) (a .sleeping) (now (a .readers)) (now (a .writers)) (now (a .certified)) (now (a .request))
+    stateOf (a .counts) ps (now (a .may-read)) (now (a .may-write)) (a .active) (now (a .unlocked)) (a .sleeping) (a .holder) (now (a .readers)) (now (a .writers)) (now (a .certified)) (now (a .request))
 
 -- what is known behind the refusals: rank and object are some that the arrays have
 numbers : (c : tie.Start) → eventRefusal (whole c []) 4 (c .args .rank) (c .args .object) ≡ 0
@@ -32,7 +32,7 @@ numbers c e =
 -- what the number says where it is none
 accepted : (c : tie.Start) (n : ℕ)
     → ((u : ℕ) (ps mr mw cs : List ℕ)
-    → n ≡ eventRefusal (stateOf (c .args .counts) ps mr mw (c .args .active) u (c .args .sleeping) (now (c .args .readers)) (now (c .args .writers)) cs (now (c .args .request))) 4 (c .args .rank) (c .args .object))
+    → n ≡ eventRefusal (stateOf (c .args .counts) ps mr mw (c .args .active) u (c .args .sleeping) (c .args .holder) (now (c .args .readers)) (now (c .args .writers)) cs (now (c .args .request))) 4 (c .args .rank) (c .args .object))
     → n ≡ 0 → (ps : List ℕ) → eventRefusal (whole c ps) 4 (c .args .rank) (c .args .object) ≡ 0
 accepted c n e z ps = sym (e (now (c .args .unlocked)) ps (now (c .args .may-read)) (now (c .args .may-write)) (now (c .args .certified))) ∙ z
 
@@ -57,7 +57,7 @@ returns-2 c =
     λ ps.
     let s = whole ((c .before .before .before .before .before .before .before .before .before .before .before .before .before)) ps in
     c .wake .ensures (a .active) _ (a .sleeping) ps
-    ∙ (λ i. E.wake (stateOf (a .counts) ps (now (a .may-read)) (now (a .may-write)) (a .active) (c .before .before .before .before .before .release .ensures .0 i) (a .sleeping) (c .before .before .before .before .before .release .ensures .1 i) (now (a .writers)) (now (a .certified)) (now (a .request))))
+    ∙ (λ i. E.wake (stateOf (a .counts) ps (now (a .may-read)) (now (a .may-write)) (a .active) (c .before .before .before .before .before .release .ensures .0 i) (a .sleeping) (a .holder) (c .before .before .before .before .before .release .ensures .1 i) (now (a .writers)) (now (a .certified)) (now (a .request))))
     ∙ sym (L.perform-accepted s 4 (a .rank) (a .object) (accepted ((c .before .before .before .before .before .before .before .before .before .before .before .before .before)) (c .before .before .before .before .before .before .before .before .before .unlock-refusal .result) (c .before .before .before .before .before .before .before .before .before .unlock-refusal .ensures) (c .before .before .before .before .before .before .before .before .if1 .left) ps) ∙ L.accepted-unlock s 4 (a .rank) (a .object) refl)
 
 pub unlock-spec : {M : Type 1} → statement M

@@ -74,8 +74,8 @@ returns c =
     let m = c .before .before .mode-of-request .ensures ∙ ap modeOfRequest (asked (c .before .before .before .before .before .before .before .before)) in
     let o = c .before .object-of-request .ensures ∙ ap objectOfRequest (asked (c .before .before .before .before .before .before .before .before)) in
     λ a u z ps.
-    let s = stateOf (b .counts) ps (now (b .may-read)) (now (b .may-write)) a u z (now (b .readers)) (now (b .writers)) (now (b .certified)) (now (b .request)) in
-    (λ i. outcome (Done r) (stateOf (b .counts) ps (now (b .may-read)) (now (b .may-write)) a u z (c .grant .ensures .0 i) (c .grant .ensures .1 i) (c .grant .ensures .2 i) (c .grant .ensures .3 i)))
+    let s = stateOf (b .counts) ps (now (b .may-read)) (now (b .may-write)) a u z h (now (b .readers)) (now (b .writers)) (now (b .certified)) (now (b .request)) in
+    (λ i. outcome (Done r) (stateOf (b .counts) ps (now (b .may-read)) (now (b .may-write)) a u z h (c .grant .ensures .0 i) (c .grant .ensures .1 i) (c .grant .ensures .2 i) (c .grant .ensures .3 i)))
     ∙ (λ i. outcome (Done r) (grant s (m i) r (o i)))
     ∙ sym (L.woken-some s r (c .before .before .before .before .before .before .before .before .before .wakeable .ensures ∙ sym (wakeable-parts s)) (c .before .before .before .before .before .before .before .before .if1 .taken))
 
@@ -83,7 +83,7 @@ returns-2 : tie.Need-returns-2
 returns-2 c =
     let b = c .before .before .before .before .before .before .args in
     λ a u z ps.
-    let s = stateOf (b .counts) ps (now (b .may-read)) (now (b .may-write)) a u z (now (b .readers)) (now (b .writers)) (now (b .certified)) (now (b .request)) in
+    let s = stateOf (b .counts) ps (now (b .may-read)) (now (b .may-write)) a u z h (now (b .readers)) (now (b .writers)) (now (b .certified)) (now (b .request)) in
     ap (λ (r : ℕ). outcome (Done r) s) (c .if1 .left)
     ∙ sym (L.woken-none s (wakeable-parts s ∙ sym (c .before .wakeable .ensures) ∙ c .if1 .left))
 

@@ -20,7 +20,7 @@ use Rattle.generator.proofs.make_load.Tie as tie
 -- the state that the parts are of
 abbrev whole : tie.Start → State
 whole c = let a = c .args in
-    stateOf (a .counts) (now (a .processor-of)) (now (a .may-read)) (now (a .may-write)) (a .active) (a .unlocked) (a .sleeping) (now (a .readers)) (now (a .writers)) (now (a .certified)) (now (a .request))
+    stateOf (a .counts) (now (a .processor-of)) (now (a .may-read)) (now (a .may-write)) (a .active) (a .unlocked) (a .sleeping) (a .holder) (now (a .readers)) (now (a .writers)) (now (a .certified)) (now (a .request))
 
 -- what is known where the state is well formed
 well : (c : tie.Else1) → wellFormed (whole (c .before .before .before)) ≡ true

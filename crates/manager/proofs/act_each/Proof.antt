@@ -18,7 +18,7 @@ use Rattle.manager.proofs.act_each.Tie as tie
 abbrev whole : (c : tie.Start) → State
 whole c = let a = c .args in
     stateOf (a .counts) (now (a .processor-of)) (now (a .may-read)) (now (a .may-write))
-    (now (a .active)) (now (a .unlocked)) (now (a .sleeping)) (now (a .readers)) (now (a .writers)) (now (a .certified)) (now (a .request))
+    (now (a .active)) (now (a .unlocked)) (now (a .sleeping)) (now (a .holder)) (now (a .readers)) (now (a .writers)) (now (a .certified)) (now (a .request))
 
 smaller-requires : tie.Need-smaller-requires
 smaller-requires c κs = search needs

@@ -13,8 +13,8 @@ use Rattle.manager.proofs.answer_each.Tie as tie
 abbrev Inv-loop : tie.InvT-loop
 Inv-loop well counts processor-of may-read may-write active₀ unlocked₀ sleeping₀ readers₀ writers₀ certified₀ request₀ events answers₀ at₀ i₀ active unlocked sleeping readers writers certified request answers at i =
     Answered events well
-    (stateOf counts processor-of may-read may-write active₀ unlocked₀ sleeping₀ readers₀ writers₀ certified₀ request₀)
-    (stateOf counts processor-of may-read may-write active unlocked sleeping readers writers certified request)
+    (stateOf counts processor-of may-read may-write active₀ unlocked₀ sleeping₀ holder₀ readers₀ writers₀ certified₀ request₀)
+    (stateOf counts processor-of may-read may-write active unlocked sleeping holder readers writers certified request)
     answers₀ answers at i
 
 abbrev μ-loop : tie.MeasureT-loop

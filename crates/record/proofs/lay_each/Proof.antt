@@ -13,8 +13,8 @@ use Rattle.record.proofs.lay_each.Tie as tie
 abbrev Inv-loop : tie.InvT-loop
 Inv-loop well counts processor-of may-read may-write active₀ unlocked₀ sleeping₀ readers₀ writers₀ certified₀ request₀ buf₀ events bytes at₀ end₀ number₀ active unlocked sleeping readers writers certified request buf at end number =
     Run bytes well
-    (stateOf counts processor-of may-read may-write active₀ unlocked₀ sleeping₀ readers₀ writers₀ certified₀ request₀)
-    (stateOf counts processor-of may-read may-write active unlocked sleeping readers writers certified request)
+    (stateOf counts processor-of may-read may-write active₀ unlocked₀ sleeping₀ holder₀ readers₀ writers₀ certified₀ request₀)
+    (stateOf counts processor-of may-read may-write active unlocked sleeping holder readers writers certified request)
     events number buf₀ buf at end
 
 abbrev μ-loop : tie.MeasureT-loop

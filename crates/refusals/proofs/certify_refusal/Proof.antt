@@ -31,7 +31,7 @@ use Rattle.state.proofs.is_marked.Reads as is-marked-reads
 -- the state that the parts are of, with any other parts
 abbrev whole : (c : tie.Start) → List ℕ → List ℕ → List ℕ → State
 whole c ps mr rs = let a = c .args in
-    stateOf (a .counts) ps mr (now (a .may-write)) (a .active) (a .unlocked) (a .sleeping) rs (now (a .writers)) (now (a .certified)) (now (a .request))
+    stateOf (a .counts) ps mr (now (a .may-write)) (a .active) (a .unlocked) (a .sleeping) (a .holder) rs (now (a .writers)) (now (a .certified)) (now (a .request))
 
 -- what the chain comes to for a request to certify
 chain : (c : tie.Start) (ps mr rs : List ℕ) → let a = c .args in let s = whole c ps mr rs in

@@ -27,7 +27,7 @@ use Rattle.state.proofs.within.Reads as within-reads
 -- the state that the parts are of, with any other parts
 abbrev whole : (c : tie.Start) → ℕ → List ℕ → List ℕ → List ℕ → List ℕ → State
 whole c u ps mr mw rs = let a = c .args in
-    stateOf (a .counts) ps mr mw (a .active) u (a .sleeping) rs (now (a .writers)) (now (a .certified)) (now (a .request))
+    stateOf (a .counts) ps mr mw (a .active) u (a .sleeping) (a .holder) rs (now (a .writers)) (now (a .certified)) (now (a .request))
 
 within-requires : tie.Need-within-requires
 within-requires c κs = search needs

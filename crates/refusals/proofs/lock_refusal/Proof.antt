@@ -22,7 +22,7 @@ use Rattle.refusals.proofs.lock_refusal.Tie as tie
 -- the state that the parts are of, with any other parts
 abbrev whole : (c : tie.Start) → List ℕ → List ℕ → State
 whole c ps cs = let a = c .args in
-    stateOf (a .counts) ps (now (a .may-read)) (now (a .may-write)) (a .active) (a .unlocked) (a .sleeping) (now (a .readers)) (now (a .writers)) cs (now (a .request))
+    stateOf (a .counts) ps (now (a .may-read)) (now (a .may-write)) (a .active) (a .unlocked) (a .sleeping) (a .holder) (now (a .readers)) (now (a .writers)) cs (now (a .request))
 
 -- what the chain comes to for a request
 chain : (c : tie.Start) (ps cs : List ℕ) → let a = c .args in let s = whole c ps cs in

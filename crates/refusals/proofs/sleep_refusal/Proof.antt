@@ -18,7 +18,7 @@ use Rattle.refusals.proofs.sleep_refusal.Tie as tie
 
 -- the state that the parts are of, with any other parts
 abbrev whole : (c : tie.Start) → ℕ → List ℕ → List ℕ → List ℕ → List ℕ → List ℕ → List ℕ → State
-whole c u ps mr mw rs ws cs = let a = c .args in stateOf (a .counts) ps mr mw (a .active) u (a .sleeping) rs ws cs (now (a .request))
+whole c u ps mr mw rs ws cs = let a = c .args in stateOf (a .counts) ps mr mw (a .active) u (a .sleeping) (a .holder) rs ws cs (now (a .request))
 
 within-requires : tie.Need-within-requires
 within-requires c κs = search needs

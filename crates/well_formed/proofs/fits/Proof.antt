@@ -35,7 +35,7 @@ use Rattle.well_formed.proofs.marks.certified_well.Reads as certified-w
 abbrev whole : (c : tie.Start) → State
 whole c = let a = c .args in
     stateOf (a .counts) (now (a .processor-of)) (now (a .may-read)) (now (a .may-write))
-    (a .active) (a .unlocked) (a .sleeping) (now (a .readers)) (now (a .writers)) (now (a .certified)) (now (a .request))
+    (a .active) (a .unlocked) (a .sleeping) (a .holder) (now (a .readers)) (now (a .writers)) (now (a .certified)) (now (a .request))
 
 -- the counts and the version are within their limits
 tested : (c : tie.Else1) → let s = whole (c .before .before .before) in (countsFit s ≡ true) × (versionFits s ≡ true)
@@ -106,7 +106,7 @@ returns-2 c =
     let all = c .before .before .before .before .before .before .before .before .before .before .before .before .before .up-to .ensures in
     let joined = c .before .before .before .before .before .before .before .before .before .before .before .before .union .ensures in
     let marked = c .before .before .before .is-subset4 .ensures ∙ ap (λ (m : ℕ). subset m (s .active)) joined in
-    let waits = c .waits-fit .ensures ∙ ap (λ (m : ℕ). waitsFit (stateOf (s .counts) [] (s .«may_read») (s .«may_write») (s .active) m 0 (s .readers) (s .writers) (s .certified) (s .request))) joined in
+    let waits = c .waits-fit .ensures ∙ ap (λ (m : ℕ). waitsFit (stateOf (s .counts) [] (s .«may_read») (s .«may_write») (s .active) m 0 0 (s .readers) (s .writers) (s .certified) (s .request))) joined in
     let declared = c .before .before .before .before .before .before .is-subset .ensures ∙ ap (subset (seen .declared)) all in
     let active = c .before .before .before .before .is-subset3 .ensures ∙ ap (subset (s .active)) all in
     let objects = ap₂ _&&_ (ap₂ _&&_ (ap₂ _&&_ (c .before .before .before .before .before .before .before .before .is-empty .ensures) (c .before .before .before .before .before .before .before .is-empty2 .ensures)) declared) (c .before .before .before .before .before .is-subset2 .ensures) in

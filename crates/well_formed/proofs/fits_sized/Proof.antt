@@ -18,7 +18,7 @@ fits-requires c κs = search needs
 returns : tie.Need-returns
 returns c =
     let a = c .before .before .before .before .before .before .before .before .before .args in
-    let z : Sized (stateOf (a .counts) (now (a .processor-of)) (now (a .may-read)) (now (a .may-write)) (a .active) (a .unlocked) (a .sleeping) (now (a .readers)) (now (a .writers)) (now (a .certified)) (now (a .request))) = record {
+    let z : Sized (stateOf (a .counts) (now (a .processor-of)) (now (a .may-read)) (now (a .may-write)) (a .active) (a .unlocked) (a .sleeping) (a .holder) (now (a .readers)) (now (a .writers)) (now (a .certified)) (now (a .request))) = record {
       processor-of = search needs;
       may-read = search needs;
       may-write = search needs;

@@ -21,7 +21,7 @@ use Rattle.questions.proofs.parts.ask_ceilings.Tie as tie
 abbrev whole : (c : tie.Start) → State
 whole c = let a = c .args in
     stateOf (a .counts) (now (a .processor-of)) (now (a .may-read)) (now (a .may-write))
-    (a .active) (a .unlocked) (a .sleeping) (now (a .readers)) (now (a .writers)) (now (a .certified)) (now (a .request))
+    (a .active) (a .unlocked) (a .sleeping) (a .holder) (now (a .readers)) (now (a .writers)) (now (a .certified)) (now (a .request))
 
 -- the number that was found is that of the state
 number : (c : tie.After-object-refusal) → c .object-refusal .result ≡ objectRefusal (whole (c .before .before)) (c .before .before .args .object)

@@ -19,7 +19,7 @@ use Rattle.questions.proofs.parts.ask_running.Tie as tie
 abbrev whole : (c : tie.Start) → State
 whole c = let a = c .args in
     stateOf (a .counts) (now (a .processor-of)) (now (a .may-read)) (now (a .may-write))
-    (a .active) (a .unlocked) (a .sleeping) (now (a .readers)) (now (a .writers)) (now (a .certified)) (now (a .request))
+    (a .active) (a .unlocked) (a .sleeping) (a .holder) (now (a .readers)) (now (a .writers)) (now (a .certified)) (now (a .request))
 
 -- the number that was found is that of the state
 number : (c : tie.After-processor-refusal) → c .processor-refusal .result ≡ processorRefusal (whole (c .before .before)) (c .before .before .args .processor)

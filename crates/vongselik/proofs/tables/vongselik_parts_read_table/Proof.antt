@@ -15,7 +15,7 @@ use Rattle.vongselik.proofs.tables.vongselik_parts_read_table.Tie as ti
 abbrev whole : (c : tie.Start) → State
 whole c = let a = c .args in
     stateOf (countsOf (now (a .version)) (now (a .processors)) (now (a .jobs)) (now (a .objects))) (now (a .processor-of)) (now (a .may-read)) (now (a .may-write))
-    (now (a .active)) (now (a .unlocked)) (now (a .sleeping)) (now (a .readers)) (now (a .writers)) (now (a .certified)) (now (a .request))
+    (now (a .active)) (now (a .unlocked)) (now (a .sleeping)) (now (a .holder)) (now (a .readers)) (now (a .writers)) (now (a .certified)) (now (a .request))
 
 read-table-requires : tie.Need-read-table-requires
 read-table-requires c κs = search needs

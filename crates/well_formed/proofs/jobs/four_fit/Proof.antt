@@ -21,7 +21,7 @@ use Rattle.well_formed.proofs.jobs.four_fit.Tie as tie
 
 abbrev Inv-loop : tie.InvT-loop
 Inv-loop counts may-read may-write active unlocked readers writers certified request from k₀ k =
-    (k ≤ 4) × (every k (λ j. waitFits (stateOf counts [] may-read may-write active unlocked 0 readers writers certified request) (from + j)) ≡ true)
+    (k ≤ 4) × (every k (λ j. waitFits (stateOf counts [] may-read may-write active unlocked 0 0 readers writers certified request) (from + j)) ≡ true)
 
 abbrev μ-loop : tie.MeasureT-loop
 μ-loop counts may-read may-write active unlocked readers writers certified request from k₀ k = 4 - k
@@ -29,7 +29,7 @@ abbrev μ-loop : tie.MeasureT-loop
 -- the state that the parts are of
 abbrev whole : (c : tie.Start Inv-loop μ-loop) → State
 whole c = let a = c .args in
-    stateOf (a .counts) [] (now (a .may-read)) (now (a .may-write)) (a .active) (a .unlocked) 0 (now (a .readers)) (now (a .writers)) (now (a .certified)) (now (a .request))
+    stateOf (a .counts) [] (now (a .may-read)) (now (a .may-write)) (a .active) (a .unlocked) 0 0 (now (a .readers)) (now (a .writers)) (now (a .certified)) (now (a .request))
 
 none-waits-requires : tie.Need-none-waits-requires Inv-loop μ-loop
 none-waits-requires c κs = search needs

@@ -107,7 +107,7 @@ returns-2 : tie.Need-returns-2
 returns-2 c =
     let t = c .before .before .before .before .before .before .before .before in
     let a = c .before .before .before .before .before .before .before .before .before .before .before .before .args in
-    let s = stateOf (a .counts) [] (now (a .may-read)) (now (a .may-write)) (a .active) (a .unlocked) 0 (now (a .readers)) (now (a .writers)) (now (a .certified)) [] in
+    let s = stateOf (a .counts) [] (now (a .may-read)) (now (a .may-write)) (a .active) (a .unlocked) 0 0 (now (a .readers)) (now (a .writers)) (now (a .certified)) [] in
     let i = objectOfRequest (a .request) - 1 in
     let asks = c .may-ask .ensures
     ∙ ap (mayAsk (modeOfRequest (a .request)) (a .rank) (getD (now (a .may-read)) i 0) (getD (now (a .may-write)) i 0) (getD (now (a .readers)) i 0) (getD (now (a .writers)) i 0)) (c .before .is-marked .ensures) in

@@ -21,7 +21,7 @@ use Rattle.well_formed.proofs.jobs.waits_fit.Tie as tie
 
 abbrev Inv-loop : tie.InvT-loop
 Inv-loop counts may-read may-write active unlocked readers writers certified request from₀ from =
-    (from % 4 ≡ 0) × (from ≤ mostJobs) × (every from (waitFits (stateOf counts [] may-read may-write active unlocked 0 readers writers certified request)) ≡ true)
+    (from % 4 ≡ 0) × (from ≤ mostJobs) × (every from (waitFits (stateOf counts [] may-read may-write active unlocked 0 0 readers writers certified request)) ≡ true)
 
 abbrev μ-loop : tie.MeasureT-loop
 μ-loop counts may-read may-write active unlocked readers writers certified request from₀ from = mostJobs - from
@@ -29,7 +29,7 @@ abbrev μ-loop : tie.MeasureT-loop
 -- the state that the parts are of
 abbrev whole : (c : tie.Start Inv-loop μ-loop) → State
 whole c = let a = c .args in
-    stateOf (a .counts) [] (now (a .may-read)) (now (a .may-write)) (a .active) (a .unlocked) 0 (now (a .readers)) (now (a .writers)) (now (a .certified)) (now (a .request))
+    stateOf (a .counts) [] (now (a .may-read)) (now (a .may-write)) (a .active) (a .unlocked) 0 0 (now (a .readers)) (now (a .writers)) (now (a .certified)) (now (a .request))
 
 none-waits-requires : tie.Need-none-waits-requires Inv-loop μ-loop
 none-waits-requires c κs = search needs
