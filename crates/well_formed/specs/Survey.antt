@@ -8,7 +8,7 @@ use Rattle.basics.specs.Arrays.{at}
 use Rattle.basics.specs.Loops.{every}
 use lib.Dec.{eqb}
 use Rattle.basics.specs.Choice.{if_then_else_}
-use Rattle.ranks.specs.Ranks.{isEmpty, member, union, subset, disjoint, atMostOne, unions}
+use Rattle.ranks.specs.Ranks.{isEmpty, member, union, minus, butFirst, subset, disjoint, atMostOne, before, unions}
 use Rattle.state.specs.State.{certify, ofMode, marked, alreadyIn}
 use Rattle.state.specs.WellFormed.{alone}
 use Rattle.well_formed.specs.declared.locks.Survey.{Survey}
@@ -65,3 +65,27 @@ certifiedWell version marks rd wr o = not (marked marks o) || (eqb version 2 && 
 abbrev pub mayAsk : ℕ → ℕ → ℕ → ℕ → ℕ → ℕ → Bool → Bool
 mayAsk mode rank mayRead mayWrite readers writers certified =
     member (ofMode mode mayRead mayWrite) rank && not (alreadyIn mode rank readers writers certified) && (not (eqb mode certify) || member writers rank)
+
+-- ---- the order of the holders, by the set of them all
+
+-- of the holders, those that are no more urgent than the most urgent declared rank: the ranks that a ceiling of the declared ranks reaches; none where none is declared
+abbrev pub reached : (held declared : ℕ) → ℕ
+reached held declared = minus held (before declared)
+
+-- of those that the ceiling reaches, no other than the most urgent is among the holders of a lock that weighs it
+abbrev pub onlyFirst : (held declared holders : ℕ) → Bool
+onlyFirst held declared holders = disjoint holders (butFirst (reached held declared))
+
+-- the ranks whose most urgent one is what a write lock weighs that shares with none or may be shared
+abbrev pub weighingOf : (none : Bool) (mayRead mayWrite : ℕ) → ℕ
+weighingOf none mayRead mayWrite = if none then union mayRead mayWrite else mayWrite
+
+-- of object o: its readers, and its writers, are in order with the holders
+abbrev pub readersOrdered : (held : ℕ) (mw rd : List ℕ) → ℕ → Bool
+readersOrdered held mw rd o = onlyFirst held (at mw o) (at rd o)
+
+abbrev pub writersOrdered : (held version : ℕ) (mr mw wr marks : List ℕ) → ℕ → Bool
+writersOrdered held version mr mw wr marks o = onlyFirst held (weighingOf (eqb version 1 || marked marks o) (at mr o) (at mw o)) (at wr o)
+
+abbrev pub objectOrdered : (held version : ℕ) (mr mw rd wr marks : List ℕ) → ℕ → Bool
+objectOrdered held version mr mw rd wr marks o = readersOrdered held mw rd o && writersOrdered held version mr mw wr marks o

@@ -10,12 +10,14 @@ ghost use Rattle.state.specs.Facts.{Sized};
 mod jobs;
 mod locks;
 mod marks;
+mod order;
 
 use jobs::processors_fit;
 use jobs::waits_fit;
 use locks::survey_objects;
 use locks::union_outside;
 use marks::certified_well;
+use order::holders_in_order;
 use ranks::RankSet;
 use state::Counts;
 use state::JobProcessors;
@@ -27,6 +29,7 @@ use state::counts_within;
 use state::is_version;
 
 // Whether the state with these parts is well formed. Who has unlocked and who sleeps are looked at together: they are active and wait for nothing.
+// The order of the holders is looked at in a second pass, and only where there are two.
 pub fn fits<'a>(
     counts: Counts,
     processor_of: &'a JobProcessors,
@@ -76,6 +79,16 @@ pub fn fits<'a>(
             writers,
             certified,
             request,
+        )
+        & (holder == ranks::most_urgent(seen.held))
+        & holders_in_order(
+            counts,
+            may_read,
+            may_write,
+            readers,
+            writers,
+            certified,
+            seen.held,
         )
 }
 

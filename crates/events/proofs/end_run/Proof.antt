@@ -41,7 +41,7 @@ unfolding endRun
 returns c =
     let a = c .before .before .before .before .before .before .before .before .before .before .before .before .before .before .before .before .before .before .before .before .args in
     λ ps. c .wake .ensures (c .before .before .before .before .before .before .before .before .before .before .before .before .before .before .before .before .before .before .without .result) (c .before .before .before .before .before .before .before .before .before .before .before .before .before .before .before .before .without2 .result) (c .before .before .before .before .before .before .before .before .before .before .before .before .before .before .without3 .result) ps
-    ∙ (λ i. E.wake (stateOf (a .counts) ps (now (a .may-read)) (now (a .may-write)) (c .before .before .before .before .before .before .before .before .before .before .before .before .before .before .before .before .before .before .without .ensures i) (c .before .before .before .before .before .before .before .before .before .before .before .before .before .before .before .before .without2 .ensures i) (c .before .before .before .before .before .before .before .before .before .before .before .before .before .before .without3 .ensures i) ?(c .before .before .before .before .before .before .before .before .before .before .before .before .before .before .without3 .ensures i) (c .before .before .before .before .before .before .before .before .before .release-sets .ensures i) (c .before .before .before .before .before .before .before .release-sets2 .ensures i) (c .before .before .before .before .before .before .before .before .before .before .before .drop-marks .ensures i) (c .before .before .before .before .before .store-request .ensures i)))
+    ∙ (λ i. E.wake (stateOf (a .counts) ps (now (a .may-read)) (now (a .may-write)) (c .before .before .before .before .before .before .before .before .before .before .before .before .before .before .before .before .before .before .without .ensures i) (c .before .before .before .before .before .before .before .before .before .before .before .before .before .before .before .before .without2 .ensures i) (c .before .before .before .before .before .before .before .before .before .before .before .before .before .before .without3 .ensures i) ? (c .before .before .before .before .before .before .before .before .before .before .before .before .before .before .without3 .ensures i) (c .before .before .before .before .before .before .before .before .before .release-sets .ensures i) (c .before .before .before .before .before .before .before .release-sets2 .ensures i) (c .before .before .before .before .before .before .before .before .before .before .before .drop-marks .ensures i) (c .before .before .before .before .before .store-request .ensures i)))
 
 pub end-run-spec : {M : Type 1} → statement M
 end-run-spec =
