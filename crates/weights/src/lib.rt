@@ -57,7 +57,7 @@ pub fn lower(a: u64, b: u64) -> u64
 }
 
 // The key of a lock: ordered by weight, then holder, then object.
-fn lock_key(weight: u16, holder: u8, object: u8) -> u64
+pub fn lock_key(weight: u16, holder: u8, object: u8) -> u64
     ensures { λ r. ⌜ r ≡ K.lockKey weight holder object ⌝ }
 {
     (weight as u64) * 65536 + (holder as u64) * 256 + (object as u64)
@@ -90,7 +90,7 @@ fn reader_key(readers: RankSet, write_ceiling: u16, object: u8) -> u64
 }
 
 // What a write lock on the object weighs: the absolute ceiling where it shares with none, else the write ceiling.
-fn write_weight(
+pub fn write_weight(
     counts: Counts,
     certified: &ObjectMarks,
     may_read: RankSet,

@@ -1,0 +1,118 @@
+-- Which objects a rank has locked, gathered into the front of a list: what is known of the list once so many objects have been looked at, and its laws.
+-- Then that the lowest of a rank's keys is the lowest over the gathered objects.
+-- Assumes nothing.
+use mathlib.Core.Path.{_≡_, refl, sym, subst, ap, _∙_}
+use mathlib.Core.Logic.{_⊎_, inl, inr}
+use mathlib.Core.Bool.{Bool, true, false}
+use mathlib.Core.List.{List}
+use Prim.Native.Nat.{ℕ, _+_, _-_, _≤_, _<_, min}
+use native.Mathlib.Nat.{le-antisymm}
+use native.Mathlib.Omega.{arith}
+use native.Mathlib.Decide.{ℕ-discrete, decLe}
+use lib.ListN.{length}
+use Rattle.basics.specs.Choice.{if_then_else_, clash}
+use Rattle.basics.specs.Arrays.{at, put, at-put-same, at-put-other}
+use Rattle.basics.specs.Loops.{least, least-top, least-le, le-least}
+use Rattle.ranks.specs.Ranks.{member, union}
+use Rattle.ranks.specs.UnionLaws.{union-left, union-right}
+use Rattle.state.specs.declared.State.{State}
+use Rattle.state.specs.State.{mostObjects, read, write, holders}
+use Rattle.state.specs.Weights.{weight}
+use Rattle.weights.specs.Keys.{lockKey, noKey}
+use Rattle.weights.specs.ObjectKeys.{heldKey}
+use Rattle.one_holder.specs.OneHolder.{holderKeyAt, holderKey}
+
+-- how many objects are passed over together
+abbrev pub blockSize : ℕ
+blockSize = 8
+
+module _ (readers writers : List ℕ) (h : ℕ) where
+  -- h holds a lock on o
+  abbrev pub heldBy : ℕ → Bool
+  heldBy o = member (union (at readers o) (at writers o)) h
+
+  -- of a table of so many objects, of which the first `done` have been looked at: the first `count` of the list are objects that h holds, and each of those is among them
+  pub record LocksTo (objects done : ℕ) (list : List ℕ) (count : ℕ) : Type 0 where
+    pub inside : (i : ℕ) → 1 ≤ i → i ≤ count → (1 ≤ at list i) × (at list i ≤ objects)
+    pub all : (o : ℕ) → 1 ≤ o → o ≤ done → o ≤ objects → heldBy o ≡ true → (i : ℕ) × (1 ≤ i) × (i ≤ count) × (at list i ≡ o)
+
+  pub record LocksOf (objects : ℕ) (list : List ℕ) (count : ℕ) : Type 0 where
+    pub few : count ≤ mostObjects
+    pub locks : LocksTo objects objects list count
+
+  module _ (objects : ℕ) where
+    pub locks-none : (list : List ℕ) → LocksTo objects 0 list 0
+    locks-none list = record { inside = λ i a b. absurd (omega arith); all = λ o a b c e. absurd (omega arith) }
+
+    -- objects that h does not hold are passed over
+    pub locks-skip : (done more count : ℕ) (list : List ℕ) → ((k : ℕ) → 1 ≤ k → k ≤ more → heldBy (done + k) ≡ false) → LocksTo objects done list count
+        → LocksTo objects (done + more) list count
+    locks-skip done more count list free L = record { inside = L .inside; all = all }
+      where
+        all : (o : ℕ) → 1 ≤ o → o ≤ done + more → o ≤ objects → heldBy o ≡ true → (i : ℕ) × (1 ≤ i) × (i ≤ count) × (at list i ≡ o)
+        all o a b c e = elim (decLe o done) [
+          | yes l ↦ L .all o a l c e
+          | no l ↦
+              let back : done + (o - done) ≡ o = omega arith in
+              absurd (clash e (subst (λ q. heldBy q ≡ false) back (free (o - done) (omega arith) (omega arith))))
+        ]
+
+    -- one that h holds is put behind the others
+    pub locks-put : (done count : ℕ) (list : List ℕ) → count < length list → done < objects → LocksTo objects done list count
+        → LocksTo objects (done + 1) (put list (count + 1) (done + 1)) (count + 1)
+    locks-put done count list room less L = record { inside = inside; all = all }
+      where
+        next : List ℕ
+        next = put list (count + 1) (done + 1)
+
+        last : at next (count + 1) ≡ done + 1
+        last = at-put-same list (count + 1) (done + 1) (omega arith) (omega arith)
+
+        before : (i : ℕ) → i ≤ count → at next i ≡ at list i
+        before i l = at-put-other list (count + 1) (done + 1) i (λ e. omega arith)
+
+        inside : (i : ℕ) → 1 ≤ i → i ≤ count + 1 → (1 ≤ at next i) × (at next i ≤ objects)
+        inside i a b = elim (decLe i count) [
+          | yes l ↦ (let w = L .inside i a l in (omega (arith, before i l, w .0), omega (arith, before i l, w .1)))
+          | no l ↦ (let e : count + 1 ≡ i = omega arith in subst (λ k. (1 ≤ at next k) × (at next k ≤ objects)) e (omega (arith, last), omega (arith, last)))
+        ]
+
+        all : (o : ℕ) → 1 ≤ o → o ≤ done + 1 → o ≤ objects → heldBy o ≡ true → (i : ℕ) × (1 ≤ i) × (i ≤ count + 1) × (at next i ≡ o)
+        all o a b c e = elim (decLe o done) [
+          | yes l ↦ (let w = L .all o a l c e in (w .0, w .1, omega (arith, w .2), before (w .0) (w .2) ∙ w .3))
+          | no l ↦ (count + 1, omega arith, omega arith, last ∙ omega arith)
+        ]
+
+-- ---- the lowest key over the gathered objects
+
+-- on an object that h does not hold it has no key
+none-held : (s : State) (h o : ℕ) → heldBy (s .readers) (s .writers) h o ≡ false → holderKeyAt s h o ≡ noKey
+none-held s h o e = go (member (holders s read o) h) refl (member (holders s write o) h) refl
+  where
+    go : (a : Bool) → member (holders s read o) h ≡ a → (b : Bool) → member (holders s write o) h ≡ b → holderKeyAt s h o ≡ noKey
+    go true p b q = absurd (clash (union-left (holders s read o) (holders s write o) h p) e)
+    go false p true q = absurd (clash (union-right (holders s read o) (holders s write o) h q) e)
+    go false p false q = simp (p, q)
+
+pub gathered-key : (s : State) (h : ℕ) (list : List ℕ) (count : ℕ) → LocksOf (s .readers) (s .writers) h (s .counts .objects) list count
+    → least count noKey (λ i. holderKeyAt s h (at list i)) ≡ holderKey s h
+unfolding holderKey
+gathered-key s h list count G = le-antisymm down up
+  where
+    down : least count noKey (λ i. holderKeyAt s h (at list i)) ≤ least (s .counts .objects) noKey (holderKeyAt s h)
+    down =
+        le-least (s .counts .objects) noKey (holderKeyAt s h) _ (least-top count noKey (λ i. holderKeyAt s h (at list i)))
+        (λ o a b. each o a b (heldBy (s .readers) (s .writers) h o) refl)
+      where
+        each : (o : ℕ) → 1 ≤ o → o ≤ s .counts .objects → (t : Bool) → heldBy (s .readers) (s .writers) h o ≡ t
+            → least count noKey (λ i. holderKeyAt s h (at list i)) ≤ holderKeyAt s h o
+        each o a b true e =
+            let w = G .locks .all o a b b e in
+            subst (λ q. least count noKey (λ i. holderKeyAt s h (at list i)) ≤ holderKeyAt s h q) (w .3)
+            (least-le count noKey (λ i. holderKeyAt s h (at list i)) (w .0) (w .1) (w .2))
+        each o a b false e = omega (arith, none-held s h o e, least-top count noKey (λ i. holderKeyAt s h (at list i)))
+
+    up : least (s .counts .objects) noKey (holderKeyAt s h) ≤ least count noKey (λ i. holderKeyAt s h (at list i))
+    up =
+        le-least count noKey (λ i. holderKeyAt s h (at list i)) _ (least-top (s .counts .objects) noKey (holderKeyAt s h))
+        (λ i a b. (let w = G .locks .inside i a b in least-le (s .counts .objects) noKey (holderKeyAt s h) (at list i) (w .0) (w .1)))

@@ -1,0 +1,37 @@
+-- A request decided from the locks of the most urgent holder (02, CR 9): the definitions. OneHolderLaws shows that this is the full reading of all locks.
+-- Assumes nothing.
+use mathlib.Core.Path.{_≡_}
+use mathlib.Core.Bool.{Bool, false, _||_}
+use Prim.Native.Nat.{ℕ, min}
+use lib.Dec.{eqb, ltb}
+use Rattle.basics.specs.Choice.{if_then_else_}
+use Rattle.basics.specs.Loops.{least}
+use Rattle.state.specs.declared.Counts.{Counts}
+use Rattle.state.specs.declared.State.{State}
+use Rattle.state.specs.State.{read, write, holders}
+use Rattle.state.specs.Weights.{moreUrgent, ceilingOf, weight}
+use Rattle.weights.specs.Keys.{noKey, keyWeight}
+use Rattle.weights.specs.ObjectKeys.{heldKey, writersWeight}
+
+-- the lowest key among the locks that h holds on o
+abbrev pub holderKeyAt : State → ℕ → ℕ → ℕ
+holderKeyAt s h o = min (heldKey (holders s read o) (weight s read h o) o h) (heldKey (holders s write o) (weight s write h o) o h)
+
+-- the lowest key among the locks that h holds: of these the one with the most urgent weight, then on the lowest object
+unfoldable pub holderKey : State → ℕ → ℕ
+holderKey s h = least (s .counts .objects) noKey (holderKeyAt s h)
+
+-- "If .. that is the requester, the answer is a grant; otherwise only that job's locks decide it": the key by which a request of j is decided. No lock's, and
+-- so a grant, where nobody holds a lock or j is the most urgent holder; else the lowest of that holder's
+unfoldable pub decidingKey : State → ℕ → ℕ
+decidingKey s j = if eqb (s .holder) 0 || eqb (s .holder) j then noKey else holderKey s (s .holder)
+
+-- a request of j that meets the key k has the answer of one that meets `full`: it passes both or neither, and where it does not, they are the same lock's
+pub record Decides (j k full : ℕ) : Type 0 where
+  pub same : ltb j (keyWeight k) ≡ ltb j (keyWeight full)
+  pub stops : ltb j (keyWeight full) ≡ false → k ≡ full
+
+-- the lowest key among h's locks on o, by the table's counts, o's sets of ranks and whether its write lock shares with none
+abbrev pub ownKey : Counts → Bool → ℕ → ℕ → ℕ → ℕ → ℕ → ℕ → ℕ
+ownKey c none readers writers mayRead mayWrite o h =
+    min (heldKey readers (moreUrgent (ceilingOf c mayWrite) h) o h) (heldKey writers (writersWeight c none mayRead mayWrite) o h)
