@@ -2,19 +2,19 @@
 -- Then that the lowest of a rank's keys is the lowest over the gathered objects.
 -- Assumes nothing.
 use mathlib.Core.Path.{_≡_, refl, sym, subst, ap, _∙_}
-use mathlib.Core.Logic.{_⊎_, inl, inr}
+use mathlib.Core.Logic.{_≢_, _⊎_, inl, inr}
 use mathlib.Core.Bool.{Bool, true, false}
 use mathlib.Core.List.{List}
 use Prim.Native.Nat.{ℕ, _+_, _-_, _≤_, _<_, min}
 use native.Mathlib.Nat.{le-antisymm}
 use native.Mathlib.Omega.{arith}
 use native.Mathlib.Decide.{ℕ-discrete, decLe}
-use lib.ListN.{length}
+use lib.ListN.{length, set}
 use Rattle.basics.specs.Choice.{if_then_else_, clash}
-use Rattle.basics.specs.Arrays.{at, put, at-put-same, at-put-other}
+use Rattle.basics.specs.Arrays.{at, put, at-put-same, at-put-other, put-index}
 use Rattle.basics.specs.Loops.{least, least-top, least-le, le-least}
-use Rattle.ranks.specs.Ranks.{member, union}
-use Rattle.ranks.specs.UnionLaws.{union-left, union-right}
+use Rattle.ranks.specs.Ranks.{member, union, unions}
+use Rattle.ranks.specs.UnionLaws.{union-left, union-right, unions-both, in-unions}
 use Rattle.state.specs.declared.State.{State}
 use Rattle.state.specs.State.{mostObjects, read, write, holders}
 use Rattle.state.specs.Weights.{weight}
@@ -31,6 +31,17 @@ module _ (readers writers : List ℕ) (h : ℕ) where
   abbrev pub heldBy : ℕ → Bool
   heldBy o = member (union (at readers o) (at writers o)) h
 
+  -- who is in none of the joined sets of a block holds none of its objects
+  pub block-free : (from : ℕ) → member (union (unions blockSize (λ k. at readers (from + k))) (unions blockSize (λ k. at writers (from + k)))) h ≡ false
+      → (k : ℕ) → 1 ≤ k → k ≤ blockSize → heldBy (from + k) ≡ false
+  block-free from none k a b = go (heldBy (from + k)) refl
+    where
+      go : (t : Bool) → heldBy (from + k) ≡ t → t ≡ false
+      go false e = refl
+      go true e =
+          let joined = in-unions blockSize (λ k. union (at readers (from + k)) (at writers (from + k))) h k a b e in
+          absurd (clash (ap (λ set. member set h) (unions-both blockSize (λ k. at readers (from + k)) (λ k. at writers (from + k))) ∙ joined) none)
+
   -- of a table of so many objects, of which the first `done` have been looked at: the first `count` of the list are objects that h holds, and each of those is among them
   pub record LocksTo (objects done : ℕ) (list : List ℕ) (count : ℕ) : Type 0 where
     pub inside : (i : ℕ) → 1 ≤ i → i ≤ count → (1 ≤ at list i) × (at list i ≤ objects)
@@ -39,6 +50,12 @@ module _ (readers writers : List ℕ) (h : ℕ) where
   pub record LocksOf (objects : ℕ) (list : List ℕ) (count : ℕ) : Type 0 where
     pub few : count ≤ mostObjects
     pub locks : LocksTo objects objects list count
+
+  -- eight objects at the most are passed over
+  pub passed-small : (done free : ℕ)
+      → (free ≡ 0) ⊎ ((free ≡ blockSize) × (done + blockSize ≤ mostObjects) × ((k : ℕ) → 1 ≤ k → k ≤ blockSize → heldBy (done + k) ≡ false)) → free ≤ blockSize
+  passed-small done free (inl e) = omega arith
+  passed-small done free (inr w) = omega (arith, w .0)
 
   module _ (objects : ℕ) where
     pub locks-none : (list : List ℕ) → LocksTo objects 0 list 0
@@ -57,11 +74,23 @@ module _ (readers writers : List ℕ) (h : ℕ) where
               absurd (clash e (subst (λ q. heldBy q ≡ false) back (free (o - done) (omega arith) (omega arith))))
         ]
 
+    -- so eight at a time, or none
+    pub locks-passed : (done free count : ℕ) (list : List ℕ) → free ≢ 0
+        → (free ≡ 0) ⊎ ((free ≡ blockSize) × (done + blockSize ≤ mostObjects) × ((k : ℕ) → 1 ≤ k → k ≤ blockSize → heldBy (done + k) ≡ false))
+        → LocksTo objects done list count → (done + free ≤ mostObjects) × LocksTo objects (done + free) list count
+    locks-passed done free count list d (inl e) L = absurd (d e)
+    locks-passed done free count list d (inr w) L =
+        (omega (arith, w .0, w .1), subst (λ k. LocksTo objects (done + k) list count) (sym (w .0)) (locks-skip done blockSize count list (w .2) L))
+
     -- one that h holds is put behind the others
     pub locks-put : (done count : ℕ) (list : List ℕ) → count < length list → done < objects → LocksTo objects done list count
-        → LocksTo objects (done + 1) (put list (count + 1) (done + 1)) (count + 1)
-    locks-put done count list room less L = record { inside = inside; all = all }
+        → LocksTo objects (done + 1) (set list count (done + 1)) (count + 1)
+    locks-put done count list room less L =
+        subst (λ next. LocksTo objects (done + 1) next (count + 1)) stored (record { inside = inside; all = all })
       where
+        stored : put list (count + 1) (done + 1) ≡ set list count (done + 1)
+        stored = let back : count + 1 - 1 ≡ count = omega arith in put-index list (count + 1) (done + 1) (omega arith) ∙ ap (λ k. set list k (done + 1)) back
+
         next : List ℕ
         next = put list (count + 1) (done + 1)
 

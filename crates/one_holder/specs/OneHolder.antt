@@ -1,17 +1,21 @@
 -- A request decided from the locks of the most urgent holder (02, CR 9): the definitions. OneHolderLaws shows that this is the full reading of all locks.
 -- Assumes nothing.
-use mathlib.Core.Path.{_≡_}
+use mathlib.Core.Path.{_≡_, refl, sym}
+use mathlib.Core.List.{List}
 use mathlib.Core.Bool.{Bool, false, _||_}
-use Prim.Native.Nat.{ℕ, min}
+use Prim.Native.Nat.{ℕ, _-_, _≤_, min}
 use lib.Dec.{eqb, ltb}
+use lib.ListN.{getD}
+use Rattle.basics.specs.Arrays.{at, at-index}
 use Rattle.basics.specs.Choice.{if_then_else_}
 use Rattle.basics.specs.Loops.{least}
 use Rattle.state.specs.declared.Counts.{Counts}
 use Rattle.state.specs.declared.State.{State}
-use Rattle.state.specs.State.{read, write, holders}
+use Rattle.state.specs.State.{read, write, marked, holders}
 use Rattle.state.specs.Weights.{moreUrgent, ceilingOf, weight}
 use Rattle.weights.specs.Keys.{noKey, keyWeight}
 use Rattle.weights.specs.ObjectKeys.{heldKey, writersWeight}
+use Rattle.weights.specs.Parts.{locksState}
 
 -- the lowest key among the locks that h holds on o
 abbrev pub holderKeyAt : State → ℕ → ℕ → ℕ
@@ -35,3 +39,10 @@ pub record Decides (j k full : ℕ) : Type 0 where
 abbrev pub ownKey : Counts → Bool → ℕ → ℕ → ℕ → ℕ → ℕ → ℕ → ℕ
 ownKey c none readers writers mayRead mayWrite o h =
     min (heldKey readers (moreUrgent (ceilingOf c mayWrite) h) o h) (heldKey writers (writersWeight c none mayRead mayWrite) o h)
+
+pub own-key-there : (counts : Counts) (mayRead mayWrite readers writers certified : List ℕ) (h o : ℕ) → 1 ≤ o
+    → holderKeyAt (locksState counts mayRead mayWrite readers writers certified) h o
+    ≡ ownKey counts (eqb (counts .version) 1 || marked certified o) (getD readers (o - 1) 0) (getD writers (o - 1) 0) (getD mayRead (o - 1) 0) (getD mayWrite (o - 1) 0) o h
+unfolding weight
+own-key-there counts mayRead mayWrite readers writers certified h o low =
+    rw (sym (at-index readers o low), sym (at-index writers o low), sym (at-index mayRead o low), sym (at-index mayWrite o low)) refl

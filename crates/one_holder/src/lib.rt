@@ -7,7 +7,7 @@ ghost use lib.Dec.{eqb};
 ghost use Rattle.basics.specs.Choice.{if_then_else_};
 ghost use Rattle.state.specs.State.{mostJobs, mostObjects, marked};
 ghost use Rattle.state.specs.Holders.{heldState};
-ghost use Rattle.weights.specs.Keys.{lockKey, noKey, noWeight};
+ghost use Rattle.weights.specs.Keys.{lockKey, noKey};
 ghost use Rattle.weights.specs.Parts.{locksState};
 ghost use Rattle.one_holder.specs.OneHolder.{ownKey, holderKeyAt, holderKey, decidingKey};
 ghost use Rattle.one_holder.specs.Gathering.{blockSize, heldBy, LocksOf};
@@ -67,8 +67,7 @@ pub fn locked_by<'a>(counts: Counts, readers: Sets<'a>, writers: Sets<'a>, rank:
 
 // The key of the holder's lock on the object if it has that lock, by what the lock weighs; else no lock's.
 fn key_if(held: bool, weight: u16, holder: u8, object: u8) -> u64
-    requires { ⌜ weight < noWeight ⌝ }
-    ensures { λ r. ⌜ (r ≡ (if held then lockKey weight holder object else noKey)) × (r ≤ noKey) ⌝ }
+    ensures { λ r. ⌜ r ≡ (if held then lockKey weight holder object else noKey) ⌝ }
 {
     if held {
         lock_key(weight, holder, object)
