@@ -2,7 +2,9 @@
 -- Assumes nothing.
 use mathlib.Core.Path.{_≡_, refl, sym}
 use mathlib.Core.List.{List}
-use mathlib.Core.Bool.{Bool, false, _||_}
+use mathlib.Core.Logic.{_≢_}
+use mathlib.Core.Bool.{Bool, false, _||_, or-true}
+use borrow.Author.Tests.{eq-eqb, ne-eqb}
 use Prim.Native.Nat.{ℕ, _-_, _≤_, min}
 use lib.Dec.{eqb, ltb}
 use lib.ListN.{getD}
@@ -29,6 +31,20 @@ holderKey s h = least (s .counts .objects) noKey (holderKeyAt s h)
 -- so a grant, where nobody holds a lock or j is the most urgent holder; else the lowest of that holder's
 unfoldable pub decidingKey : State → ℕ → ℕ
 decidingKey s j = if eqb (s .holder) 0 || eqb (s .holder) j then noKey else holderKey s (s .holder)
+
+-- it is, in each case
+module _ (s : State) (j : ℕ) where
+  pub by-none : s .holder ≡ 0 → decidingKey s j ≡ noKey
+  unfolding decidingKey
+  by-none e = simp (eq-eqb (s .holder) 0 e)
+
+  pub by-requester : s .holder ≡ j → decidingKey s j ≡ noKey
+  unfolding decidingKey
+  by-requester e = simp (eq-eqb (s .holder) j e, or-true)
+
+  pub by-holder : s .holder ≢ 0 → s .holder ≢ j → decidingKey s j ≡ holderKey s (s .holder)
+  unfolding decidingKey
+  by-holder d e = simp (ne-eqb (s .holder) 0 d, ne-eqb (s .holder) j e)
 
 -- a request of j that meets the key k has the answer of one that meets `full`: it passes both or neither, and where it does not, they are the same lock's
 pub record Decides (j k full : ℕ) : Type 0 where
