@@ -14,6 +14,7 @@ use Rattle.basics.specs.Choice.{if_then_else_, clash}
 use Rattle.basics.specs.Arrays.{at, put, at-put-same, at-put-other, put-index}
 use Rattle.basics.specs.Loops.{least, least-top, least-le, le-least}
 use Rattle.ranks.specs.Ranks.{member, union, unions}
+use Rattle.ranks.specs.RankLaws.{member-zero}
 use Rattle.ranks.specs.UnionLaws.{union-left, union-right, unions-both, in-unions}
 use Rattle.state.specs.declared.State.{State}
 use Rattle.state.specs.State.{mostObjects, read, write, holders}
@@ -49,6 +50,8 @@ module _ (readers writers : List ℕ) (h : ℕ) where
 
   pub record LocksOf (objects : ℕ) (list : List ℕ) (count : ℕ) : Type 0 where
     pub few : count ≤ mostObjects
+    -- who has one is a rank
+    pub rank : 1 ≤ count → 1 ≤ h
     pub locks : LocksTo objects objects list count
 
   -- eight objects at the most are passed over
@@ -111,6 +114,17 @@ module _ (readers writers : List ℕ) (h : ℕ) where
           | yes l ↦ (let w = L .all o a l c e in (w .0, w .1, omega (arith, w .2), before (w .0) (w .2) ∙ w .3))
           | no l ↦ (count + 1, omega arith, omega arith, last ∙ omega arith)
         ]
+
+-- nobody, rank 0, has none
+pub nobody-locks : (readers writers : List ℕ) (h objects : ℕ) (list : List ℕ) → h ≡ 0 → LocksOf readers writers h objects list 0
+nobody-locks readers writers h objects list z = record {
+  few = omega arith;
+  rank = λ l. absurd (omega arith);
+  locks = record {
+    inside = λ i a b. absurd (omega arith);
+    all = λ o a b c e. absurd (clash (subst (λ r. member (union (at readers o) (at writers o)) r ≡ true) z e) (member-zero (union (at readers o) (at writers o))));
+  };
+}
 
 -- ---- the lowest key over the gathered objects
 

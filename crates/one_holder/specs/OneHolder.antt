@@ -3,7 +3,7 @@
 use mathlib.Core.Path.{_≡_, refl, sym}
 use mathlib.Core.List.{List}
 use mathlib.Core.Logic.{_≢_}
-use mathlib.Core.Bool.{Bool, false, _||_, or-true}
+use mathlib.Core.Bool.{Bool, false, _||_}
 use borrow.Author.Tests.{eq-eqb, ne-eqb}
 use Prim.Native.Nat.{ℕ, _-_, _≤_, min}
 use lib.Dec.{eqb, ltb}
@@ -27,24 +27,19 @@ holderKeyAt s h o = min (heldKey (holders s read o) (weight s read h o) o h) (he
 unfoldable pub holderKey : State → ℕ → ℕ
 holderKey s h = least (s .counts .objects) noKey (holderKeyAt s h)
 
--- "If .. that is the requester, the answer is a grant; otherwise only that job's locks decide it": the key by which a request of j is decided. No lock's, and
--- so a grant, where nobody holds a lock or j is the most urgent holder; else the lowest of that holder's
-unfoldable pub decidingKey : State → ℕ → ℕ
-decidingKey s j = if eqb (s .holder) 0 || eqb (s .holder) j then noKey else holderKey s (s .holder)
+-- the key by which a request of j is decided, by the most urgent holder and the lowest of its keys: "If .. that is the requester, the answer is a grant; otherwise
+-- only that job's locks decide it". Where there is no holder, 0, it has no lock, and its lowest key is no lock's
+abbrev pub keyAgainst : (holder key j : ℕ) → ℕ
+keyAgainst holder key j = if eqb holder j then noKey else key
 
--- it is, in each case
-module _ (s : State) (j : ℕ) where
-  pub by-none : s .holder ≡ 0 → decidingKey s j ≡ noKey
-  unfolding decidingKey
-  by-none e = simp (eq-eqb (s .holder) 0 e)
+pub against-holder : (holder key j : ℕ) → holder ≡ j → keyAgainst holder key j ≡ noKey
+against-holder holder key j e = simp (eq-eqb holder j e)
 
-  pub by-requester : s .holder ≡ j → decidingKey s j ≡ noKey
-  unfolding decidingKey
-  by-requester e = simp (eq-eqb (s .holder) j e, or-true)
+pub against-other : (holder key j : ℕ) → holder ≢ j → keyAgainst holder key j ≡ key
+against-other holder key j d = simp (ne-eqb holder j d)
 
-  pub by-holder : s .holder ≢ 0 → s .holder ≢ j → decidingKey s j ≡ holderKey s (s .holder)
-  unfolding decidingKey
-  by-holder d e = simp (ne-eqb (s .holder) 0 d, ne-eqb (s .holder) j e)
+abbrev pub decidingKey : State → ℕ → ℕ
+decidingKey s j = keyAgainst (s .holder) (holderKey s (s .holder)) j
 
 -- a request of j that meets the key k has the answer of one that meets `full`: it passes both or neither, and where it does not, they are the same lock's
 pub record Decides (j k full : ℕ) : Type 0 where

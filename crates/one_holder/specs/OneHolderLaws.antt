@@ -13,6 +13,7 @@ use borrow.Author.Tests.{eqb-true, eqb-false, eq-eqb, ne-eqb, lt-ltb}
 use Rattle.basics.specs.Choice.{if_then_else_, clash}
 use Rattle.basics.specs.Loops.{least, least-le, least-top, le-least}
 use Rattle.ranks.specs.Ranks.{member}
+use Rattle.ranks.specs.RankLaws.{member-zero}
 use Rattle.state.specs.declared.State.{State}
 use Rattle.state.specs.State.{mostJobs, mostObjects, read, write, holders, holds}
 use Rattle.state.specs.Facts.{In}
@@ -35,6 +36,18 @@ le-held n set weighs o r top each = go (member set r) refl
     go : (b : Bool) → member set r ≡ b → n ≤ (if b then lockKey weighs r o else noKey)
     go true e = each e
     go false e = top
+
+-- nobody, rank 0, has no key
+nobody-key : (s : State) → holderKey s 0 ≡ noKey
+unfolding holderKey
+nobody-key s =
+    le-antisymm (least-top (s .counts .objects) noKey (holderKeyAt s 0))
+    (le-least (s .counts .objects) noKey (holderKeyAt s 0) noKey (omega arith)
+    (λ o a b. omega (
+      arith,
+      le-held noKey (holders s read o) (weight s read 0 o) o 0 (omega arith) (λ i. absurd (clash i (member-zero (holders s read o)))),
+      le-held noKey (holders s write o) (weight s write 0 o) o 0 (omega arith) (λ i. absurd (clash i (member-zero (holders s write o)))),
+    )))
 
 module _ (s : State) (H : HolderFacts s) where
   -- the key of each of h's locks is at least its lowest
@@ -110,17 +123,16 @@ module _ (s : State) (H : HolderFacts s) where
 
     -- so the deciding key decides as the full reading does
     pub deciding : j ≤ mostJobs → Decides j (decidingKey s j) (lowestKey s j)
-    unfolding decidingKey
-    deciding high = go (eqb (s .holder) 0) refl (eqb (s .holder) j) refl
+    deciding high = go (eqb (s .holder) j) refl (ℕ-discrete (s .holder) 0)
       where
         passing : (s .holder ≡ 0) ⊎ (s .holder ≡ j) → Decides j noKey (lowestKey s j)
         passing c =
             let passes : ltb j (keyWeight (lowestKey s j)) ≡ true = lt-ltb j (keyWeight (lowestKey s j)) (omega (arith, holder-passes high c)) in
             record { same = lt-ltb j (keyWeight noKey) (omega arith) ∙ sym passes; stops = λ e. absurd (clash passes e) }
 
-        go : (a : Bool) → eqb (s .holder) 0 ≡ a → (b : Bool) → eqb (s .holder) j ≡ b → Decides j (if a || b then noKey else holderKey s (s .holder)) (lowestKey s j)
-        go true e b f = passing (inl (eqb-true (s .holder) 0 e))
-        go false e true f = passing (inr (eqb-true (s .holder) j f))
-        go false e false f =
-            let is = holder-decides (eqb-false (s .holder) 0 e) (eqb-false (s .holder) j f) in
+        go : (b : Bool) → eqb (s .holder) j ≡ b → Dec (s .holder ≡ 0) → Decides j (if b then noKey else holderKey s (s .holder)) (lowestKey s j)
+        go true e d = passing (inr (eqb-true (s .holder) j e))
+        go false e (yes z) = subst (λ k. Decides j k (lowestKey s j)) (sym (ap (holderKey s) z ∙ nobody-key s)) (passing (inl z))
+        go false e (no d) =
+            let is = holder-decides d (eqb-false (s .holder) j e) in
             record { same = ap (λ k. ltb j (keyWeight k)) (sym is); stops = λ q. sym is }

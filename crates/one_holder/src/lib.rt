@@ -9,7 +9,7 @@ ghost use Rattle.state.specs.State.{mostJobs, mostObjects, marked};
 ghost use Rattle.state.specs.Holders.{heldState};
 ghost use Rattle.weights.specs.Keys.{lockKey, noKey};
 ghost use Rattle.weights.specs.Parts.{locksState};
-ghost use Rattle.one_holder.specs.OneHolder.{ownKey, holderKeyAt, holderKey, decidingKey};
+ghost use Rattle.one_holder.specs.OneHolder.{ownKey, holderKeyAt, holderKey, keyAgainst, decidingKey};
 ghost use Rattle.one_holder.specs.Gathering.{blockSize, heldBy, LocksOf};
 use ranks::RankSet;
 use state::Counts;
@@ -41,14 +41,17 @@ fn passed_over<'a>(readers: Sets<'a>, writers: Sets<'a>, from: usize, rank: u8) 
     if ranks::contains(held, rank) { 0 } else { 8 }
 }
 
-// The objects of the table that the rank has locked.
+// The objects of the table that the rank has locked; none where the rank is 0, nobody.
 pub fn locked_by<'a>(counts: Counts, readers: Sets<'a>, writers: Sets<'a>, rank: u8) -> Locked
-    requires { ⌜ (counts .objects ≤ mostObjects) × (1 ≤ rank) × (rank ≤ mostJobs) ⌝ }
+    requires { ⌜ (counts .objects ≤ mostObjects) × (rank ≤ mostJobs) ⌝ }
     ensures { λ r. ⌜ LocksOf (now (readers .entry)) (now (writers .entry)) rank (counts .objects) (r .objects) (r .count) ⌝ }
 {
     let most = counts.objects as usize;
     let mut objects: [u8; 128] = [0; 128];
     let mut count: usize = 0;
+    if rank == 0 {
+        return Locked { objects, count };
+    }
     let mut i: usize = 0;
     while i < most {
         let free = passed_over(readers, writers, i, rank);
@@ -130,7 +133,7 @@ pub fn own_key_at<'a>(
     )
 }
 
-// The lowest key among the holder's locks.
+// The lowest key among the holder's locks; no lock's where it has none, and for nobody, 0.
 pub fn holder_key<'a>(
     counts: Counts,
     may_read: Sets<'a>,
@@ -140,7 +143,7 @@ pub fn holder_key<'a>(
     certified: &'a ObjectMarks,
     holder: u8,
 ) -> u64
-    requires { ⌜ (counts .objects ≤ mostObjects) × (1 ≤ holder) × (holder ≤ mostJobs) ⌝ }
+    requires { ⌜ (counts .objects ≤ mostObjects) × (holder ≤ mostJobs) ⌝ }
     ensures { λ r. ⌜ r ≡ holderKey (locksState counts (now («may_read» .entry)) (now («may_write» .entry)) (now (readers .entry)) (now (writers .entry)) (now (certified .entry))) holder ⌝ }
 {
     let locked = locked_by(counts, readers, writers, holder);
@@ -163,8 +166,14 @@ pub fn holder_key<'a>(
     lowest
 }
 
-// The key by which a request of the rank is decided: no lock's where nobody holds a lock or the rank is the most urgent holder, else the lowest of that
-// holder's locks.
+// The key by which a request of the rank is decided, by the most urgent holder and the lowest of its keys: no lock's where the rank is that holder.
+pub fn key_against(holder: u8, key: u64, rank: u8) -> u64
+    ensures { λ r. ⌜ r ≡ keyAgainst holder key rank ⌝ }
+{
+    if holder == rank { NO_KEY } else { key }
+}
+
+// The same, by the locks; they are read only where the rank is not that holder.
 pub fn deciding_key<'a>(
     counts: Counts,
     may_read: Sets<'a>,
@@ -178,9 +187,6 @@ pub fn deciding_key<'a>(
     requires { ⌜ (counts .objects ≤ mostObjects) × (holder ≤ mostJobs) ⌝ }
     ensures { λ r. ⌜ r ≡ decidingKey (heldState counts (now («may_read» .entry)) (now («may_write» .entry)) holder (now (readers .entry)) (now (writers .entry)) (now (certified .entry))) rank ⌝ }
 {
-    if holder == 0 {
-        return NO_KEY;
-    }
     if holder == rank {
         return NO_KEY;
     }

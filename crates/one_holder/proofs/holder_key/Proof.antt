@@ -42,7 +42,7 @@ own-key-at-requires c κs =
     let i = c .before .before .loop .i in
     let w = c .before .before .before .locked-by .ensures .locks .inside (i + 1) (omega arith) (omega (arith, c .before .loop-test .taken)) in
     let here = at-next (c .before .before .before .locked-by .result .objects) i in
-    (omega (arith, here, w .0), omega (arith, here, w .1, c .before .before .before .before .pre), c .before .before .before .before .pre .1, c .before .before .before .before .pre .2)
+    (omega (arith, here, w .0), omega (arith, here, w .1, c .before .before .before .before .pre), omega (arith, c .before .before .before .locked-by .ensures .rank (omega (arith, c .before .loop-test .taken))), c .before .before .before .before .pre .1)
 
 lower-requires : tie.Need-lower-requires Inv-loop μ-loop
 lower-requires c κs = search needs

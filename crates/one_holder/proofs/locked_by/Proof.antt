@@ -11,7 +11,7 @@ use lib.ListN.{length, set, length-set}
 use Rattle.basics.specs.Arrays.{at-next}
 use Rattle.ranks.specs.Ranks.{member, union}
 use Rattle.state.specs.State.{mostObjects}
-use Rattle.one_holder.specs.Gathering.{heldBy, LocksTo, LocksOf, passed-small, locks-none, locks-passed, locks-skip, locks-put}
+use Rattle.one_holder.specs.Gathering.{heldBy, LocksTo, LocksOf, passed-small, locks-none, locks-passed, locks-skip, locks-put, nobody-locks}
 use borrow.Author.Needs.{needs}
 use Rattle.one_holder.proofs.locked_by.Statement.{statement}
 use Rattle.one_holder.proofs.locked_by.Tie as tie
@@ -32,22 +32,22 @@ cast-most : tie.Need-cast-most Inv-loop μ-loop
 cast-most c = search needs
 
 loop-holds : tie.Need-loop-holds Inv-loop μ-loop
-loop-holds c = (omega arith, omega arith, refl, locks-none (now (c .before .args .readers)) (now (c .before .args .writers)) (c .before .args .rank) _ _)
+loop-holds c = (omega arith, omega arith, refl, locks-none (now (c .before .before .args .readers)) (now (c .before .before .args .writers)) (c .before .before .args .rank) _ _)
 
 passed-over-requires : tie.Need-passed-over-requires Inv-loop μ-loop
 passed-over-requires c κs = search needs
 
 add-i : tie.Need-add-i Inv-loop μ-loop
-add-i c = search (needs, passed-small (now (c .before .before .before .before .before .args .readers)) (now (c .before .before .before .before .before .args .writers)) (c .before .before .before .before .before .args .rank) (c .before .before .before .loop .i) (c .before .passed-over .result) (c .before .passed-over .ensures))
+add-i c = search (needs, passed-small (now (c .before .before .before .before .before .before .args .readers)) (now (c .before .before .before .before .before .before .args .writers)) (c .before .before .before .before .before .before .args .rank) (c .before .before .before .loop .i) (c .before .passed-over .result) (c .before .passed-over .ensures))
 
 loop-less : tie.Need-loop-less Inv-loop μ-loop
 loop-less c = search needs
 
 loop-again : tie.Need-loop-again Inv-loop μ-loop
 loop-again c =
-    let a = c .before .before .before .before .before .args in
+    let a = c .before .before .before .before .before .before .args in
     let inv = c .before .before .before .loop .inv in
-    let next = locks-passed (now (a .readers)) (now (a .writers)) (a .rank) (a .counts .objects) (c .before .before .before .loop .i) (c .before .passed-over .result) (c .before .before .before .loop .count) (c .before .before .before .loop .objects) (c .if1 .taken) (c .before .passed-over .ensures) (inv .3) in
+    let next = locks-passed (now (a .readers)) (now (a .writers)) (a .rank) (a .counts .objects) (c .before .before .before .loop .i) (c .before .passed-over .result) (c .before .before .before .loop .count) (c .before .before .before .loop .objects) (c .if2 .taken) (c .before .passed-over .ensures) (inv .3) in
     (next .0, omega (arith, inv .1), inv .2, next .1)
 
 mul-union : tie.Need-mul-union Inv-loop μ-loop
@@ -88,20 +88,20 @@ loop-less-2 c = search needs
 
 loop-again-2 : tie.Need-loop-again-2 Inv-loop μ-loop
 loop-again-2 c =
-    let a = c .before .before .before .before .before .before .before .before .before .before .args in
+    let a = c .before .before .before .before .before .before .before .before .before .before .before .args in
     let rd = now (a .readers) in
     let wr = now (a .writers) in
     let i = c .before .before .before .before .before .before .before .before .loop .i in
     let inv = c .before .before .before .before .before .before .before .before .loop .inv in
     let held : c .before .contains .result ≡ heldBy rd wr (a .rank) (i + 1) = c .before .contains .ensures ∙ ap (λ (set : ℕ). member set (a .rank)) (c .before .before .union .ensures ∙ sym (λ p. union (at-next rd i p) (at-next wr i p))) in
     let most = a .counts .objects in
-    let small : i + 1 ≤ mostObjects = omega (arith, c .before .before .before .before .before .before .before .loop-test .taken, c .before .before .before .before .before .before .before .before .before .before .pre) in
-    elim (c .if2 .came) [
+    let small : i + 1 ≤ mostObjects = omega (arith, c .before .before .before .before .before .before .before .loop-test .taken, c .before .before .before .before .before .before .before .before .before .before .before .pre) in
+    elim (c .if3 .came) [
       | inl t ↦ (
         small,
         omega (arith, t .2, inv .1),
         ap length (t .1) ∙ length-set (c .before .before .before .before .before .before .before .before .loop .objects) (c .before .before .before .before .before .before .before .before .loop .count) (i + 1) ∙ inv .2,
-        subst (λ list. LocksTo rd wr (a .rank) most (i + 1) list (c .if2 .count)) (sym (t .1))
+        subst (λ list. LocksTo rd wr (a .rank) most (i + 1) list (c .if3 .count)) (sym (t .1))
             (subst (LocksTo rd wr (a .rank) most (i + 1) (set (c .before .before .before .before .before .before .before .before .loop .objects) (c .before .before .before .before .before .before .before .before .loop .count) (i + 1))) (sym (t .2))
             (locks-put rd wr (a .rank) most i (c .before .before .before .before .before .before .before .before .loop .count) (c .before .before .before .before .before .before .before .before .loop .objects) (omega (arith, inv .1, inv .2)) (omega (arith, c .before .before .before .before .before .before .before .loop-test .taken)) (inv .3))),
       )
@@ -109,7 +109,7 @@ loop-again-2 c =
         small,
         omega (arith, t .2, inv .1),
         ap length (t .1) ∙ inv .2,
-        subst (λ list. LocksTo rd wr (a .rank) most (i + 1) list (c .if2 .count)) (sym (t .1))
+        subst (λ list. LocksTo rd wr (a .rank) most (i + 1) list (c .if3 .count)) (sym (t .1))
             (subst (LocksTo rd wr (a .rank) most (i + 1) (c .before .before .before .before .before .before .before .before .loop .objects)) (sym (t .2))
             (locks-skip rd wr (a .rank) most i 1 (c .before .before .before .before .before .before .before .before .loop .count) (c .before .before .before .before .before .before .before .before .loop .objects)
             (λ k l h. let one : 1 ≡ k = omega arith in subst (λ (n : ℕ). heldBy rd wr (a .rank) (i + n) ≡ false) one (sym held ∙ t .0 .left)) (inv .3))),
@@ -117,10 +117,14 @@ loop-again-2 c =
     ]
 
 returns : tie.Need-returns Inv-loop μ-loop
-returns c =
+returns c = nobody-locks (now (c .before .before .args .readers)) (now (c .before .before .args .writers)) (c .before .before .args .rank) (c .before .before .args .counts .objects) _ (c .if1 .taken)
+
+returns-2 : tie.Need-returns-2 Inv-loop μ-loop
+returns-2 c =
     let inv = c .before .loop .inv in
     record {
       few = omega (arith, inv .0, inv .1);
+      rank = λ l. omega (arith, c .before .before .if1 .left);
       locks = record { inside = inv .3 .inside; all = λ o l h k e. inv .3 .all o l (omega (arith, h, c .loop-test .left)) k e };
     }
 
@@ -131,6 +135,7 @@ locked-by-spec =
     Inv-loop
     μ-loop
     cast-most
+    returns
     loop-holds
     passed-over-requires
     add-i
@@ -149,4 +154,4 @@ locked-by-spec =
     add-i-2
     loop-less-2
     loop-again-2
-    returns)
+    returns-2)
