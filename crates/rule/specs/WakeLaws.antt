@@ -72,3 +72,7 @@ module _ (s : State) where
     | inl z ↦ absurd (d (z .0))
     | inr w ↦ (w .high, wakes-is (wakeable s) (w .low) (w .itself) .0)
   ]
+
+-- of so many locks of the holder, those that do not count against j: "Own locks don't count."
+abbrev pub notCounting : (holder count j : ℕ) → ℕ
+notCounting holder count j = if eqb holder j then count else 0

@@ -2,19 +2,20 @@
 // A function sees the parts of a state that it asks about: numbers by value, a rank's or an object's array by reference.
 ghost use mathlib.Core.Path.{_≡_};
 ghost use Prim.Native.Nat.{_≤_};
-ghost use Rattle.state.specs.State.{mostJobs, mostObjects};
-ghost use Rattle.weights.specs.Keys.{lowestKey};
-ghost use Rattle.weights.specs.Parts.{locksState};
+ghost use Rattle.state.specs.State.{mostJobs};
+ghost use Rattle.state.specs.Holders.{HolderFacts, heldState};
 ghost use Rattle.rule.specs.Granting as G;
 ghost use Rattle.rule.specs.Parts.{waitsState};
+ghost use Rattle.rule.specs.WakeLaws.{notCounting};
+use one_holder::locked_by;
+use one_holder::own_key_at;
 use ranks::RankSet;
 use state::Counts;
 use state::JobRequests;
 use state::ObjectMarks;
 use state::Sets;
+use state::none_waits;
 use weights::NO_KEY;
-use weights::key_at;
-use weights::lowest_key;
 
 // Whether a request of the rank passes the lock with the key.
 pub fn passes(rank: u8, key: u64) -> bool
@@ -23,32 +24,13 @@ pub fn passes(rank: u8, key: u64) -> bool
     (rank as u64) < key / 65536
 }
 
-// The key of the lock that the rank names while it has the request; no lock's where it does not wait or its request passes.
-pub fn named_key<'a>(
-    counts: Counts,
-    may_read: Sets<'a>,
-    may_write: Sets<'a>,
-    readers: Sets<'a>,
-    writers: Sets<'a>,
-    certified: &'a ObjectMarks,
-    request: u16,
-    rank: u8,
-) -> u64
-    requires { ⌜ (counts .objects ≤ mostObjects) × (1 ≤ rank) × (rank ≤ mostJobs) ⌝ }
-    ensures { λ r. ⌜ r ≡ G.namedKeyOf request (lowestKey (locksState counts (now («may_read» .entry)) (now («may_write» .entry)) (now (readers .entry)) (now (writers .entry)) (now (certified .entry))) rank) rank ⌝ }
+// The key of the lock that the rank names while it has the request and meets the key; no lock's where it does not wait or its request passes.
+pub fn named_key(request: u16, key: u64, rank: u8) -> u64
+    ensures { λ r. ⌜ r ≡ G.namedKeyOf request key rank ⌝ }
 {
     if request == 0 {
         return NO_KEY;
     }
-    let key = lowest_key(
-        counts,
-        may_read,
-        may_write,
-        readers,
-        writers,
-        certified,
-        rank,
-    );
     if passes(rank, key) { NO_KEY } else { key }
 }
 
@@ -85,19 +67,31 @@ pub fn reason(
     2
 }
 
-// The most urgent waiting rank whose request passes, and 0 where none does.
+// How many of so many locks of the holder do not count against the rank: all where it is the holder, since own locks don't count; else none.
+fn not_counting(holder: u8, count: usize, rank: u8) -> usize
+    ensures { λ r. ⌜ r ≡ notCounting holder count rank ⌝ }
+{
+    if holder == rank { count } else { 0 }
+}
+
+// The most urgent waiting rank whose request passes, and 0 where none does. The locks of the most urgent holder decide; which objects they are on is gathered once.
 pub fn wakeable<'a>(
     counts: Counts,
     may_read: Sets<'a>,
     may_write: Sets<'a>,
+    holder: u8,
     readers: Sets<'a>,
     writers: Sets<'a>,
     certified: &'a ObjectMarks,
     request: &'a JobRequests,
 ) -> u8
-    requires { ⌜ (counts .jobs ≤ mostJobs) × (counts .objects ≤ mostObjects) ⌝ }
+    requires { ⌜ (counts .jobs ≤ mostJobs) × HolderFacts (heldState counts (now «may_read») (now «may_write») holder (now readers) (now writers) (now certified)) ⌝ }
     ensures { λ r. ⌜ r ≡ G.wakeable (waitsState counts (now («may_read» .entry)) (now («may_write» .entry)) (now (readers .entry)) (now (writers .entry)) (now (certified .entry)) (now (request .entry))) ⌝ }
 {
+    if none_waits(request, 0, 64) {
+        return 0;
+    }
+    let locked = locked_by(counts, readers, writers, holder);
     let mut rank: u8 = 0;
     'search: loop {
         if rank == counts.jobs {
@@ -106,18 +100,19 @@ pub fn wakeable<'a>(
         let at = rank as usize;
         rank += 1;
         if request[at] != 0 {
-            let mut done: u8 = 0;
-            while done < counts.objects {
+            let mut done = not_counting(holder, locked.count, rank);
+            while done < locked.count {
+                let object = locked.objects[done];
                 done += 1;
-                let key = key_at(
+                let key = own_key_at(
                     counts,
                     may_read,
                     may_write,
                     readers,
                     writers,
                     certified,
-                    done,
-                    rank,
+                    object,
+                    holder,
                 );
                 if !passes(rank, key) {
                     continue 'search;

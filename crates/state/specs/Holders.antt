@@ -88,6 +88,12 @@ module _ (s : State) (H : HolderFacts s) where
       let w = unions-in mostObjects (λ o. union (holders s read o) (holders s write o)) r among in
       elim (union-either (holders s read (w .0)) (holders s write (w .0)) r (w .3)) [ inl i ↦ (read, w .0, i) | inr i ↦ (write, w .0, i) ]
 
+  pub carried-small : s .holder ≤ mostJobs
+  carried-small = elim (ℕ-discrete (s .holder) 0) [
+    | yes e ↦ omega arith
+    | no d ↦ (let w = carried-holds d in H .rank (w .0) (s .holder) (w .1) (w .2) .1)
+  ]
+
   -- no holder is more urgent, and where there is one, somebody is carried
   pub carried-first : (m r o : ℕ) → In (holders s m o) r → (1 ≤ s .holder) × (s .holder ≤ r)
   carried-first m r o i =
