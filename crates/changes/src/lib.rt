@@ -1,14 +1,15 @@
 // Changes of a state's parts, in place: a lock given, locks given up, objects certified no more, a request stored.
 ghost use mathlib.Core.Path.{_≡_};
 ghost use Prim.Native.Nat.{_+_, _≤_};
-ghost use Rattle.basics.specs.Arrays.{put};
+ghost use Rattle.basics.specs.Arrays.{at, put};
 ghost use Rattle.ranks.specs.Ranks as R;
-ghost use Rattle.state.specs.State.{mostJobs, mostObjects, modeOfRequest, objectOfRequest, mark, grantReaders, grantWriters, grantMarks, releaseReaders, releaseSets, keptIn, dropMarks};
+ghost use Rattle.state.specs.State.{mostJobs, mostObjects, mostUrgentHolder, modeOfRequest, objectOfRequest, mark, grantReaders, grantWriters, grantMarks, releaseReaders, releaseSets, keptIn, dropMarks};
 use ranks::RankSet;
 use state::JobRequests;
 use state::ObjectMarks;
 use state::Sets;
 use state::SetsMut;
+use state::union_of;
 
 // Puts the object into the set.
 fn mark_object(marks: &mut ObjectMarks, object: u8)
@@ -63,16 +64,27 @@ pub fn release(unlocked: &mut RankSet, readers: SetsMut, rank: u8, object: u8)
     readers[i] = ranks::without(readers[i], rank);
 }
 
-// Takes the rank out of every set.
-pub fn release_sets(sets: SetsMut, rank: u8)
+// Takes the rank out of every set. The ranks that are left in them, all together.
+pub fn release_sets(sets: SetsMut, rank: u8) -> RankSet
     requires { ⌜ (1 ≤ rank) × (rank ≤ mostJobs) ⌝ }
-    ensures { λ _. ⌜ now (sets .exit) ≡ releaseSets rank (now (sets .entry)) ⌝ }
+    ensures { λ r. ⌜ (now (sets .exit) ≡ releaseSets rank (now (sets .entry))) × (r ≡ R.unions mostObjects (λ o. R.without (at (now (sets .entry)) o) rank)) ⌝ }
 {
+    let mut left = ranks::EMPTY;
     let mut i: usize = 0;
     while i < 128 {
-        sets[i] = ranks::without(sets[i], rank);
+        let kept = ranks::without(sets[i], rank);
+        sets[i] = kept;
+        left = ranks::union(left, kept);
         i += 1;
     }
+    left
+}
+
+// The most urgent rank that holds a lock, by the objects' readers and writers; 0 where none does.
+pub fn holder_of<'a>(readers: Sets<'a>, writers: Sets<'a>) -> u8
+    ensures { λ r. ⌜ r ≡ mostUrgentHolder (now (readers .entry)) (now (writers .entry)) ⌝ }
+{
+    ranks::most_urgent(ranks::union(union_of(readers, 0, 128), union_of(writers, 0, 128)))
 }
 
 // What is left of a word of a set of objects, whose places stand behind an index, without the objects that the rank writes.

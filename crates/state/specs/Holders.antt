@@ -6,6 +6,7 @@ use mathlib.Core.Logic.{_≢_, _⊎_, inl, inr, ⊎-elim}
 use mathlib.Core.Bool.{Bool, true, false, _||_}
 use mathlib.Core.List.{List, []}
 use Prim.Native.Nat.{ℕ, _^_, _≤_, _<_}
+use native.Mathlib.Nat.{le-antisymm}
 use native.Mathlib.Omega.{arith}
 use native.Mathlib.Decide.{ℕ-discrete}
 use lib.Dec.{eqb}
@@ -14,8 +15,8 @@ use lib.Pow.{pow-mono}
 use Rattle.basics.specs.Choice.{if_then_else_, clash}
 use Rattle.basics.specs.Arrays.{at, put, at-put-same, at-put-other, length-put, at-mapped, length-mapped}
 use Rattle.ranks.specs.Ranks.{member, with, without, union, mostUrgent, unions}
-use Rattle.ranks.specs.RankLaws.{member-with-same, member-with-other, without-lt}
-use Rattle.ranks.specs.UnionLaws.{union-left, union-right, union-either, union-lt, in-unions, unions-in, unions-lt, first-union}
+use Rattle.ranks.specs.RankLaws.{member-with-same, member-with-other, member-without-other, without-lt}
+use Rattle.ranks.specs.UnionLaws.{union-left, union-right, union-either, union-lt, in-unions, unions-in, unions-lt, unions-both, first-union}
 use Rattle.ranks.specs.FirstLaws.{most-urgent-member, most-urgent-least, most-urgent-is}
 use Rattle.state.specs.declared.Counts.{Counts}
 use Rattle.state.specs.declared.State.{State}
@@ -227,22 +228,18 @@ fewer-marks s t m r o fewer =
         version false q = heavier (isCertified s o)
 
 module _ (s : State) (H : HolderFacts s) (r : ℕ) where
+  pub release-fewer : (o : ℕ) → 1 ≤ o → o ≤ mostObjects → (m x p : ℕ) → In (holders (release s r o) m p) x → In (holders s m p) x
+  unfolding release
+  release-fewer o low high m x p =
+      either-mode (λ f. In (f (at (releaseReaders r o (s .readers)) p) (at (s .writers) p)) x → In (f (at (s .readers) p) (at (s .writers) p)) x)
+      (put-in (s .readers) o (without (at (s .readers) o) r) p x low (omega (arith, H .readers)) (λ i. without-in (at (s .readers) o) r x i .0)) (λ i. i) m
+
   pub release-holders : (o : ℕ) → 1 ≤ o → o ≤ mostObjects → HolderFacts (release s r o)
   unfolding release
   release-holders o low high =
       fewer-held s (release s r o) H (length-put (s .readers) o (without (at (s .readers) o) r) ∙ H .readers) (H .writers) (H .certified) refl
-      small fewer (λ m x p i. fewer-marks s (release s r o) m x p (λ e. e))
+      small (release-fewer o low high) (λ m x p i. fewer-marks s (release s r o) m x p (λ e. e))
     where
-      part : (p x : ℕ) → In (at (releaseReaders r o (s .readers)) p) x → In (holders s read p) x
-      part p x =
-          put-in (s .readers) o (without (at (s .readers) o) r) p x low (omega (arith, H .readers))
-          (λ i. without-in (at (s .readers) o) r x i .0)
-
-      fewer : (m x p : ℕ) → In (holders (release s r o) m p) x → In (holders s m p) x
-      fewer m x p =
-          either-mode (λ f. In (f (at (releaseReaders r o (s .readers)) p) (at (s .writers) p)) x → In (f (at (s .readers) p) (at (s .writers) p)) x)
-          (part p x) (λ i. i) m
-
       small-readers : (p : ℕ) → at (releaseReaders r o (s .readers)) p < 2 ^ mostJobs
       small-readers p = elim (ℕ-discrete o p) [
         | yes e ↦ subst (λ q. at (releaseReaders r o (s .readers)) q < 2 ^ mostJobs) e
@@ -275,3 +272,54 @@ module _ (s : State) (H : HolderFacts s) (r : ℕ) where
       marks : (o : ℕ) → (1 ≤ o) × (o ≤ s .counts .objects) → (b : Bool) → holds s write r o ≡ b → isCertified (endRun s r) o ≡ true → isCertified s o ≡ true
       marks o object true h e = absurd (clash e (drop-gone r (s .writers) (s .certified) o (object .0) (omega (arith, object .1, H .few)) h))
       marks o object false h e = sym (drop-kept r (s .writers) (s .certified) (H .certified) o h) ∙ e
+
+-- ---- the next most urgent holder
+
+module _ (s : State) (H : HolderFacts s) (r : ℕ) where
+  -- the carried rank stays where another job's lock is given up
+  pub release-holder : (o : ℕ) → 1 ≤ o → o ≤ mostObjects → s .holder ≢ r → mostUrgentHolder (releaseReaders r o (s .readers)) (s .writers) ≡ s .holder
+  unfolding release
+  release-holder o low high other = go (ℕ-discrete (s .holder) 0)
+    where
+      t : State
+      t = release s r o
+
+      T : HolderFacts t
+      T = release-holders s H r o low high
+
+      kept : (m p : ℕ) → In (holders s m p) (s .holder) → In (holders t m p) (s .holder)
+      kept m p =
+          either-mode (λ f. In (f (at (s .readers) p) (at (s .writers) p)) (s .holder)
+          → In (f (at (releaseReaders r o (s .readers)) p) (at (s .writers) p)) (s .holder)) still (λ i. i) m
+        where
+          still : In (at (s .readers) p) (s .holder) → In (at (releaseReaders r o (s .readers)) p) (s .holder)
+          still i = elim (ℕ-discrete o p) [
+            | yes e ↦ subst (λ q. In (at (s .readers) q) (s .holder) → In (at (releaseReaders r o (s .readers)) q) (s .holder)) e
+                (λ j. ap (λ v. member v (s .holder)) (at-put-same (s .readers) o (without (at (s .readers) o) r) low (omega (arith, H .readers)))
+                ∙ (member-without-other (at (s .readers) o) r (s .holder) (λ q. other (sym q)) ∙ j)) i
+            | no d ↦ ap (λ v. member v (s .holder)) (at-put-other (s .readers) o (without (at (s .readers) o) r) p d) ∙ i
+          ]
+
+      back : (m p x : ℕ) → In (holders t m p) x → (1 ≤ s .holder) × (s .holder ≤ x)
+      back m p x i = carried-first s H m x p (release-fewer s H r o low high m x p i)
+
+      go : Dec (s .holder ≡ 0) → mostUrgentHolder (releaseReaders r o (s .readers)) (s .writers) ≡ s .holder
+      go (yes e) = elim (ℕ-discrete (t .holder) 0) [
+        | yes z ↦ z ∙ sym e
+        | no d ↦ (let w = carried-holds t T d in absurd (omega (arith, back (w .0) (w .1) (t .holder) (w .2))))
+      ]
+      go (no d) =
+          let w = carried-holds s H d in
+          let first = carried-first t T (w .0) (s .holder) (w .1) (kept (w .0) (w .1) (w .2)) in
+          let v = carried-holds t T (λ e. omega (arith, first .0)) in
+          le-antisymm (first .1) (back (v .0) (v .1) (t .holder) (v .2) .1)
+
+  -- at the end of a run it is the most urgent of the ranks that are left in the sets
+  pub end-run-holder : mostUrgent (union (unions mostObjects (λ o. without (at (s .readers) o) r)) (unions mostObjects (λ o. without (at (s .writers) o) r)))
+      ≡ mostUrgentHolder (releaseSets r (s .readers)) (releaseSets r (s .writers))
+  unfolding allHolders
+  end-run-holder =
+      ap mostUrgent (unions-both mostObjects (λ o. without (at (s .readers) o) r) (λ o. without (at (s .writers) o) r)
+      ∙ sym (λ i. unions mostObjects (λ o. union
+      (at-mapped (λ v. without v r) mostObjects (s .readers) o (without-none r) (H .readers) i)
+      (at-mapped (λ v. without v r) mostObjects (s .writers) o (without-none r) (H .writers) i))))

@@ -1,5 +1,5 @@
 -- What the code gathers of the objects says of each clause of a well-formed state: the joined sets are empty, or lie in a set,
--- if and only if each object's do.
+-- if and only if each object's do; and the holders that it gathers are all there are (their order: OrderLaws).
 -- Assumes nothing.
 use mathlib.Core.Path.{_≡_, refl, sym, ap, ap₂, _∙_}
 use mathlib.Core.Bool.{Bool, true, false, not, _&&_, _||_}
@@ -9,21 +9,22 @@ use native.Mathlib.Omega.{arith}
 use native.Mathlib.Decide.{decLe}
 use lib.Dec.{eqb}
 use lib.Bits.{bitAnd, and-zero-l, and-zero-r, or-zero-r}
-use borrow.Author.Tests.{eqb-true, eq-eqb}
+use borrow.Author.Tests.{eqb-true, eq-eqb, ltb-true}
 use Rattle.basics.specs.Choice.{clash, same-test, and-true, and-left, and-right, or-right, between-true, inside-between}
 use Rattle.basics.specs.Loops.{every, every-at, every-true, every-split}
 use Rattle.basics.specs.Arrays.{at}
-use Rattle.ranks.specs.Ranks.{wordBits, isEmpty, union, common, minus, subset, disjoint, atMostOne, upTo, lessOne, unions}
+use Rattle.ranks.specs.Ranks.{wordBits, isEmpty, mostUrgent, union, common, minus, subset, disjoint, atMostOne, upTo, lessOne, unions}
 use Rattle.ranks.specs.UnionLaws.{empty-union, empty-minus, unions-both, unions-split, unions-empty, unions-subset, subset-union, subset-up-to, subset-le, empty-at-most-one}
 use Rattle.ranks.specs.LessOneLaws.{less-one-alone, less-one-at-most-one}
 use Rattle.state.specs.declared.State.{State}
 use Rattle.well_formed.specs.declared.locks.Survey.{Survey}
-use Rattle.state.specs.State.{mostJobs, mostObjects, read, write, isObject, declared, declaredAny, holders, holdersAny, isCertified}
+use Rattle.state.specs.State.{mostJobs, mostObjects, read, write, isObject, declared, declaredAny, holders, holdersAny, allHolders, isCertified}
 use Rattle.state.specs.WellFormed.{countsFit, processorsFit, declarationFits, declarationsFit, ofJobs, declaredOfJobs, aboveIdle, heldByActive, heldByRight, locksFit}
-use Rattle.state.specs.WellFormed.{lockedOnce, alone, writtenAlone, oneLockEach, writersAlone, waitsFit, marksFit, versionFits, certifyFits, certifiesFit, waitsAwake, sleepersFit, wellFormed}
+use Rattle.state.specs.WellFormed.{lockedOnce, alone, writtenAlone, oneLockEach, writersAlone, waitsFit, marksFit, versionFits, certifyFits, certifiesFit, waitsAwake, sleepersFit, holderFits, holdersInOrder, wellFormed}
 use Rattle.state.specs.Clauses.{Clauses, clauses, well-formed, counts-within}
 use Rattle.well_formed.proofs.WaitLaws.{marksJoined, waits-joined}
-use Rattle.well_formed.specs.Survey.{apart, inOrder, blockSize, inBlocks, objectInOrder, heldOn, allOf, Surveyed, certifiable, certifiedWell}
+use Rattle.well_formed.proofs.OrderLaws.{ordered-clause}
+use Rattle.well_formed.specs.Survey.{apart, inOrder, blockSize, inBlocks, objectInOrder, heldOn, allOf, Surveyed, certifiable, certifiedWell, objectOrdered}
 
 -- ---- one object
 
@@ -187,9 +188,41 @@ module _ (s : State) (counts : countsFit s ≡ true) (version : versionFits s �
   outside-each : isEmpty outside ≡ every (mostObjects - s .counts .objects) (λ k. empty (s .counts .objects + k))
   outside-each = ap isEmpty O ∙ unions-empty (mostObjects - s .counts .objects) (λ k. allOf (s .«may_read») (s .«may_write») (s .readers) (s .writers) (s .counts .objects + k))
 
+  -- nothing is outside the table, so that the holders seen in blocks are all there are
+  module _ (t : isEmpty outside ≡ true) where
+    outside-empty : (o : ℕ) → s .counts .objects < o → o ≤ mostObjects → empty o ≡ true
+    outside-empty o a b =
+        let here : s .counts .objects + (o - s .counts .objects) ≡ o = omega arith in
+        ap empty (sym here)
+        ∙ every-at (mostObjects - s .counts .objects) (λ k. empty (s .counts .objects + k)) (o - s .counts .objects) (sym outside-each ∙ t) (omega arith) (omega arith)
+
+    outside-unlocked : (o : ℕ) → s .counts .objects < o → o ≤ mostObjects → holdersAny s o ≡ 0
+    outside-unlocked o a b =
+        eqb-true (holdersAny s o) 0
+        (and-right (isEmpty (declaredAny s o)) (isEmpty (holdersAny s o)) (sym (empty-union (declaredAny s o) (holdersAny s o)) ∙ outside-empty o a b))
+
+    all-seen : seen .held ≡ allHolders (s .readers) (s .writers)
+    unfolding allHolders
+    all-seen =
+        let rest = mostObjects - n in
+        let whole : n + rest ≡ mostObjects = omega (arith, few) in
+        let none = unions-empty rest (λ k. holdersAny s (n + k))
+        ∙ every-true rest (λ k. isEmpty (holdersAny s (n + k))) (λ k a b. eq-eqb (holdersAny s (n + k)) 0 (outside-unlocked (n + k) (omega (arith, few)) (omega (arith, few)))) in
+        S .held ∙ sym (or-zero-r (unions n (holdersAny s))) ∙ ap (union (unions n (holdersAny s))) (sym (eqb-true (unions rest (λ k. holdersAny s (n + k))) 0 none))
+        ∙ unions-split n rest (holdersAny s) ∙ ap (λ (k : ℕ). unions k (holdersAny s)) whole
+
   -- what is gathered, as the code tests it
+  abbrev t1 : Bool
+  t1 = isEmpty (seen .wrong)
+
+  abbrev t2 : Bool
+  t2 = t1 && isEmpty outside
+
+  abbrev t3 : Bool
+  t3 = t2 && subset (seen .declared) (upTo (s .counts .jobs))
+
   abbrev gathered : Bool
-  gathered = isEmpty (seen .wrong) && isEmpty outside && subset (seen .declared) (upTo (s .counts .jobs)) && subset (seen .held) (s .active)
+  gathered = t3 && subset (seen .held) (s .active)
 
   abbrev well : ℕ → Bool
   well = certifiedWell (s .counts .version) (s .certified) (s .readers) (s .writers)
@@ -203,15 +236,6 @@ module _ (s : State) (counts : countsFit s ≡ true) (version : versionFits s �
   -- ---- the test passes, so each object fits
 
   module _ (t : gathered ≡ true) (certified : every mostObjects well ≡ true) where
-    abbrev t1 : Bool
-    t1 = isEmpty (seen .wrong)
-
-    abbrev t2 : Bool
-    t2 = t1 && isEmpty outside
-
-    abbrev t3 : Bool
-    t3 = t2 && subset (seen .declared) (upTo (s .counts .jobs))
-
     p3 : t3 ≡ true
     p3 = and-left t3 (subset (seen .held) (s .active)) t
 
@@ -247,11 +271,7 @@ module _ (s : State) (counts : countsFit s ≡ true) (version : versionFits s �
 
     outside-fits : (o : ℕ) → s .counts .objects < o → o ≤ mostObjects → ObjectFits s o
     outside-fits o a b =
-        let here : s .counts .objects + (o - s .counts .objects) ≡ o = omega arith in
-        let none = ap empty (sym here)
-        ∙ every-at (mostObjects - s .counts .objects) (λ k. empty (s .counts .objects + k)) (o - s .counts .objects)
-        (sym outside-each ∙ and-right t1 (isEmpty outside) p2) (omega arith) (omega arith) in
-        let both = sym (empty-union (declaredAny s o) (holdersAny s o)) ∙ none in
+        let both = sym (empty-union (declaredAny s o) (holdersAny s o)) ∙ outside-empty (and-right t1 (isEmpty outside) p2) o a b in
         let rights = and-left (isEmpty (declaredAny s o)) (isEmpty (holdersAny s o)) both in
         let locks = and-right (isEmpty (declaredAny s o)) (isEmpty (holdersAny s o)) both in
         let each = sym (empty-union (holders s read o) (holders s write o)) ∙ locks in
@@ -312,25 +332,36 @@ module _ (s : State) (counts : countsFit s ≡ true) (version : versionFits s �
         let F = fits o a b in
         fits-well first second (isCertified s o) (holders s read o) (holders s write o) (F .alone) (F .certify))
 
-  -- ---- the whole test
+  -- ---- the whole test: what is asked of each object and each job by itself
 
-  abbrev test : Bool
-  test =
-      gathered && subset (s .active) (upTo (s .counts .jobs)) && subset (union (s .unlocked) (s .sleeping)) (s .active) && every mostObjects well && processorsFit s
-      && waitsFit (marksJoined s)
+  abbrev t4 : Bool
+  t4 = gathered && subset (s .active) (upTo (s .counts .jobs))
 
-  test-clauses : test ≡ true → Clauses s
+  abbrev t5 : Bool
+  t5 = t4 && subset (union (s .unlocked) (s .sleeping)) (s .active)
+
+  abbrev t6 : Bool
+  t6 = t5 && every mostObjects well
+
+  abbrev t7 : Bool
+  t7 = t6 && processorsFit s
+
+  abbrev each : Bool
+  each = t7 && waitsFit (marksJoined s)
+
+  each-active : each ≡ true → t4 ≡ true
+  each-active t =
+      and-left t4 (subset (union (s .unlocked) (s .sleeping)) (s .active))
+      (and-left t5 (every mostObjects well) (and-left t6 (processorsFit s) (and-left t7 (waitsFit (marksJoined s)) t)))
+
+  each-clauses : each ≡ true → holderFits s ≡ true → holdersInOrder s ≡ true → Clauses s
   unfolding declarationsFit aboveIdle locksFit oneLockEach writersAlone marksFit certifiesFit sleepersFit
-  test-clauses t =
-      let t4 = gathered && subset (s .active) (upTo (s .counts .jobs)) in
-      let t5 = t4 && subset (union (s .unlocked) (s .sleeping)) (s .active) in
-      let t6 = t5 && every mostObjects well in
-      let t7 = t6 && processorsFit s in
+  each-clauses t holder order =
       let p7 = and-left t7 (waitsFit (marksJoined s)) t in
       let waits = sym (waits-joined s) ∙ and-right t7 (waitsFit (marksJoined s)) t in
       let p6 = and-left t6 (processorsFit s) p7 in
       let p5 = and-left t5 (every mostObjects well) p6 in
-      let p4 = and-left t4 (subset (union (s .unlocked) (s .sleeping)) (s .active)) p5 in
+      let p4 = each-active t in
       let marks = sym (subset-union (s .unlocked) (s .sleeping) (s .active)) ∙ and-right t4 (subset (union (s .unlocked) (s .sleeping)) (s .active)) p5 in
       let fits = each-fits (and-left gathered (subset (s .active) (upTo (s .counts .jobs))) p4) (and-right t5 (every mostObjects well) p6) in
       record {
@@ -354,11 +385,13 @@ module _ (s : State) (counts : countsFit s ≡ true) (version : versionFits s �
             and-true (subset (s .sleeping) (s .active)) (every mostJobs (waitsAwake s))
             (and-right (subset (s .unlocked) (s .active)) (subset (s .sleeping) (s .active)) marks)
             (and-right (waitsFit s) (every mostJobs (waitsAwake s)) waits);
+        holder = holder;
+        order = order;
       }
 
-  clauses-test : Clauses s → test ≡ true
+  clauses-each : Clauses s → each ≡ true
   unfolding declarationsFit aboveIdle locksFit oneLockEach writersAlone marksFit certifiesFit sleepersFit
-  clauses-test c =
+  clauses-each c =
       let fits : (o : ℕ) → 1 ≤ o → o ≤ mostObjects → ObjectFits s o = λ o a b. record {
         declaration = every-at mostObjects (declarationFits s) o (c .declarations) a b;
         jobs = every-at mostObjects (declaredOfJobs s) o (and-right (ofJobs s (s .active)) (every mostObjects (declaredOfJobs s)) (c .above)) a b;
@@ -376,5 +409,46 @@ module _ (s : State) (counts : countsFit s ≡ true) (version : versionFits s �
       let waits = waits-joined s ∙ and-true _ _ (c .waits) awake in
       simp (fits-gathered fits, jobs, marks, fits-certified fits, c .processors, waits)
 
-  pub tests-well : test ≡ wellFormed s
-  tests-well = same-test test (wellFormed s) (λ t. well-formed s (test-clauses t)) (λ w. clauses-test (clauses s w))
+  -- ---- and of the holders among themselves
+
+  abbrev carried : Bool
+  carried = eqb (s .holder) (mostUrgent (seen .held))
+
+  abbrev ordered : ℕ → Bool
+  ordered = objectOrdered (seen .held) (s .counts .version) (s .«may_read») (s .«may_write») (s .readers) (s .writers) (s .certified)
+
+  -- where each object and each job fits, what is tested of the holders that were seen is what is asked of all
+  module _ (t : each ≡ true) where
+    fit : gathered ≡ true
+    fit = and-left gathered (subset (s .active) (upTo (s .counts .jobs))) (each-active t)
+
+    none-outside-seen : isEmpty outside ≡ true
+    none-outside-seen = and-right t1 (isEmpty outside) (and-left t2 (subset (seen .declared) (upTo (s .counts .jobs))) (and-left t3 (subset (seen .held) (s .active)) fit))
+
+    holders-same : seen .held ≡ allHolders (s .readers) (s .writers)
+    holders-same = all-seen none-outside-seen
+
+    holders-jobs : allHolders (s .readers) (s .writers) < 2 ^ s .counts .jobs
+    holders-jobs =
+        let active = sym (subset-up-to (s .counts .jobs) (s .active)) ∙ and-right gathered (subset (s .active) (upTo (s .counts .jobs))) (each-active t) in
+        let held = subset-le (seen .held) (s .active) (and-right t3 (subset (seen .held) (s .active)) fit) in
+        omega (arith, ltb-true (s .active) (2 ^ s .counts .jobs) active, held, holders-same)
+
+    carried-same : carried ≡ holderFits s
+    unfolding holderFits
+    carried-same = ap (λ (h : ℕ). eqb (s .holder) (mostUrgent h)) holders-same
+
+    ordered-same : every n ordered ≡ holdersInOrder s
+    ordered-same =
+        ap (λ (h : ℕ). every n (objectOrdered h (s .counts .version) (s .«may_read») (s .«may_write») (s .readers) (s .writers) (s .certified))) holders-same
+        ∙ ordered-clause s (counts-within (s .counts) counts .jobs .1) holders-jobs (outside-unlocked none-outside-seen) n (few .0) (few .1)
+
+  pub tests-well : each && carried && every n ordered ≡ wellFormed s
+  tests-well =
+      same-test (each && carried && every n ordered) (wellFormed s)
+      (λ t. let both = and-left (each && carried) (every n ordered) t in
+      let fit = and-left each carried both in
+      well-formed s (each-clauses fit (sym (carried-same fit) ∙ and-right each carried both) (sym (ordered-same fit) ∙ and-right (each && carried) (every n ordered) t)))
+      (λ w. let c = clauses s w in
+      let fit = clauses-each c in
+      and-true (each && carried) (every n ordered) (and-true each carried fit (carried-same fit ∙ c .holder)) (ordered-same fit ∙ c .order))

@@ -92,7 +92,7 @@ wait-not s from k e = let next : suc (from + k) ≡ from + (k + 1) = omega arith
 -- ---- those that have unlocked and those that sleep, together: a waiting job is none of them
 
 abbrev pub marksJoined : State → State
-marksJoined s = withLocks s (s .active) (union (s .unlocked) (s .sleeping)) 0 (s .readers) (s .writers) (s .certified) (s .request)
+marksJoined s = withLocks s (s .active) (union (s .unlocked) (s .sleeping)) 0 (s .holder) (s .readers) (s .writers) (s .certified) (s .request)
 
 pub waits-joined : (s : State) → waitsFit (marksJoined s) ≡ waitsFit s && every mostJobs (waitsAwake s)
 unfolding waitsFit

@@ -1,14 +1,15 @@
--- `well_formed::fits` meets its contract: what is gathered of the objects is true if and only if their clauses are (SurveyLaws);
--- the other clauses are tested as they stand.
+-- `well_formed::fits` meets its contract: what is gathered of the objects and tested of the holders is true if and only if their clauses are
+-- (SurveyLaws); the other clauses are tested as they stand.
 -- Assumes nothing.
 use denote.Ref.{now}
 use mathlib.Core.Path.{_≡_, sym, ap, ap₂, _∙_}
 use mathlib.Core.Bool.{true, _&&_}
 use mathlib.Core.List.{[]}
 use Prim.Native.Nat.{ℕ}
+use lib.Dec.{eqb}
 use borrow.Author.Tests.{not-true, not-false}
 use Rattle.basics.specs.Choice.{and-left, and-right, between-true}
-use Rattle.ranks.specs.Ranks.{subset}
+use Rattle.ranks.specs.Ranks.{mostUrgent, subset}
 use Rattle.state.specs.declared.State.{State}
 use Rattle.state.specs.State.{stateOf}
 use Rattle.state.specs.WellFormed.{countsFit, versionFits, processorsFit, waitsFit}
@@ -21,6 +22,7 @@ use Rattle.well_formed.proofs.fits.Reads as reads
 use Rattle.well_formed.proofs.fits.Lts as lts
 use Rattle.ranks.proofs.is_empty.Reads as is-empty-reads
 use Rattle.ranks.proofs.is_subset.Reads as is-subset-reads
+use Rattle.ranks.proofs.most_urgent.Reads as most-urgent-reads
 use Rattle.ranks.proofs.union.Reads as union-reads
 use Rattle.ranks.proofs.up_to.Reads as up-to-reads
 use Rattle.state.proofs.counts_within.Reads as counts-within-reads
@@ -30,6 +32,7 @@ use Rattle.well_formed.proofs.jobs.waits_fit.Reads as waits-fit-reads
 use Rattle.well_formed.proofs.locks.survey_objects.Reads as survey-objects-reads
 use Rattle.well_formed.proofs.locks.union_outside.Reads as union-outside-reads
 use Rattle.well_formed.proofs.marks.certified_well.Reads as certified-well-reads
+use Rattle.well_formed.proofs.order.holders_in_order.Reads as holders-in-order-reads
 
 -- the state that the parts are of
 abbrev whole : (c : tie.Start) → State
@@ -96,22 +99,31 @@ waits-fit-requires c κs =
     let t = tested (c .before .before .before .before .before .before .before .before .before .before .before .before .before) in
     (between-true 1 2 (c .before .before .before .before .before .before .before .before .before .before .before .before .before .before .before .before .args .counts .version) (t .1) .1, counts-within (c .before .before .before .before .before .before .before .before .before .before .before .before .before .before .before .before .args .counts) (t .0) .objects .1)
 
+most-urgent-requires : tie.Need-most-urgent-requires
+most-urgent-requires c κs = search needs
+
+holders-in-order-requires : tie.Need-holders-in-order-requires
+holders-in-order-requires c κs = counts-within (c .before .before .before .before .before .before .before .before .before .before .before .before .before .before .before .before .before .before .args .counts) (tested (c .before .before .before .before .before .before .before .before .before .before .before .before .before .before .before) .0) .objects .1
+
 returns-2 : tie.Need-returns-2
 unfolding processorsFit waitsFit
 returns-2 c =
-    let t = tested (c .before .before .before .before .before .before .before .before .before .before .before .before .before .before) in
-    let s = whole ((c .before .before .before .before .before .before .before .before .before .before .before .before .before .before .before .before .before)) in
-    let seen = c .before .before .before .before .before .before .before .before .before .survey-objects .result in
-    let outside = c .before .before .before .before .before .before .before .before .before .before .before .union-outside .result in
-    let all = c .before .before .before .before .before .before .before .before .before .before .before .before .before .up-to .ensures in
-    let joined = c .before .before .before .before .before .before .before .before .before .before .before .before .union .ensures in
-    let marked = c .before .before .before .is-subset4 .ensures ∙ ap (λ (m : ℕ). subset m (s .active)) joined in
-    let waits = c .waits-fit .ensures ∙ ap (λ (m : ℕ). waitsFit (stateOf (s .counts) [] (s .«may_read») (s .«may_write») (s .active) m 0 0 (s .readers) (s .writers) (s .certified) (s .request))) joined in
-    let declared = c .before .before .before .before .before .before .is-subset .ensures ∙ ap (subset (seen .declared)) all in
-    let active = c .before .before .before .before .is-subset3 .ensures ∙ ap (subset (s .active)) all in
-    let objects = ap₂ _&&_ (ap₂ _&&_ (ap₂ _&&_ (c .before .before .before .before .before .before .before .before .is-empty .ensures) (c .before .before .before .before .before .before .before .is-empty2 .ensures)) declared) (c .before .before .before .before .before .is-subset2 .ensures) in
-    ap₂ _&&_ (ap₂ _&&_ (ap₂ _&&_ (ap₂ _&&_ (ap₂ _&&_ objects active) marked) (c .before .before .certified-well .ensures)) (c .before .processors-fit .ensures)) waits
-    ∙ tests-well s (t .0) (t .1) seen outside (c .before .before .before .before .before .before .before .before .before .survey-objects .ensures) (c .before .before .before .before .before .before .before .before .before .before .before .union-outside .ensures)
+    let t = tested (c .before .before .before .before .before .before .before .before .before .before .before .before .before .before .before .before) in
+    let s = whole (c .before .before .before .before .before .before .before .before .before .before .before .before .before .before .before .before .before .before .before) in
+    let seen = c .before .before .before .before .before .before .before .before .before .before .before .survey-objects .result in
+    let outside = c .before .before .before .before .before .before .before .before .before .before .before .before .before .union-outside .result in
+    let all = c .before .before .before .before .before .before .before .before .before .before .before .before .before .before .before .up-to .ensures in
+    let joined = c .before .before .before .before .before .before .before .before .before .before .before .before .before .before .union .ensures in
+    let marked = c .before .before .before .before .before .is-subset4 .ensures ∙ ap (λ (m : ℕ). subset m (s .active)) joined in
+    let waits = c .before .before .waits-fit .ensures ∙ ap (λ (m : ℕ). waitsFit (stateOf (s .counts) [] (s .«may_read») (s .«may_write») (s .active) m 0 0 (s .readers) (s .writers) (s .certified) (s .request))) joined in
+    let declared = c .before .before .before .before .before .before .before .before .is-subset .ensures ∙ ap (subset (seen .declared)) all in
+    let active = c .before .before .before .before .before .before .is-subset3 .ensures ∙ ap (subset (s .active)) all in
+    let objects = ap₂ _&&_ (ap₂ _&&_ (ap₂ _&&_ (c .before .before .before .before .before .before .before .before .before .before .is-empty .ensures) (c .before .before .before .before .before .before .before .before .before .is-empty2 .ensures)) declared) (c .before .before .before .before .before .before .before .is-subset2 .ensures) in
+    let each = ap₂ _&&_ (ap₂ _&&_ (ap₂ _&&_ (ap₂ _&&_ (ap₂ _&&_ objects active) marked) (c .before .before .before .before .certified-well .ensures)) (c .before .before .before .processors-fit .ensures)) waits in
+    let urgent : c .before .most-urgent .result ≡ mostUrgent (seen .held) = c .before .most-urgent .ensures in
+    let carried = ap (eqb (s .holder)) urgent in
+    ap₂ _&&_ (ap₂ _&&_ each carried) (c .holders-in-order .ensures)
+    ∙ tests-well s (t .0) (t .1) seen outside (c .before .before .before .before .before .before .before .before .before .before .before .survey-objects .ensures) (c .before .before .before .before .before .before .before .before .before .before .before .before .before .union-outside .ensures)
 
 pub fits-spec : {M : Type 1} → statement M
 fits-spec =
@@ -133,4 +145,6 @@ fits-spec =
     certified-well-requires
     processors-fit-requires
     waits-fit-requires
+    most-urgent-requires
+    holders-in-order-requires
     returns-2)
