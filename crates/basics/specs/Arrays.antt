@@ -106,6 +106,13 @@ mapped-more f n xs = rw (add-one n) (more n xs)
     more zero (x ∷ xs) = refl
     more (suc n) (x ∷ xs) = ap {B = List ℕ} (λ r. f x ∷ r) (more n xs)
 
+-- the elements behind the first n are as they were
+pub mapped-rest : (f : ℕ → ℕ) (n : ℕ) (xs : List ℕ) → getD (mapped f n xs) n 0 ≡ getD xs n 0
+unfolding mapped
+mapped-rest f zero xs = refl
+mapped-rest f (suc n) [] = refl
+mapped-rest f (suc n) (x ∷ xs) = mapped-rest f n xs
+
 pub length-mapped : (f : ℕ → ℕ) (n : ℕ) (xs : List ℕ) → length (mapped f n xs) ≡ length xs
 unfolding mapped
 length-mapped f zero xs = refl

@@ -1,27 +1,29 @@
--- `changes::release_sets` meets its contract. The loop's invariant: the first i sets are without the rank, the others as they were.
--- It ends because what is left of the sets falls.
+-- `changes::release_sets` meets its contract. The loop's invariant: the first i sets are without the rank, the others as they were, and `left` has the ranks
+-- of the first i. It ends because what is left of the sets falls.
 -- Assumes nothing.
-use Prim.Native.Nat.{ℕ, _-_, _≤_}
-use mathlib.Core.Path.{_≡_, refl, ap, _∙_}
+use Prim.Native.Nat.{ℕ, suc, _+_, _-_, _≤_}
+use mathlib.Core.Path.{_≡_, refl, sym, ap, ap₂, _∙_}
 use mathlib.Core.List.{List}
 use native.Mathlib.Omega.{arith}
 use lib.ListN.{getD, set}
-use Rattle.basics.specs.Arrays.{mapped, mapped-more}
-use Rattle.ranks.specs.Ranks.{without}
+use Rattle.basics.specs.Arrays.{at, mapped, mapped-more, mapped-rest, at-next}
+use Rattle.ranks.specs.Ranks.{without, union, unions}
+use Rattle.ranks.specs.UnionLaws.{unions-next}
 use Rattle.state.specs.State.{mostObjects}
 use borrow.Author.Needs.{needs}
 use Rattle.changes.proofs.release_sets.Statement.{statement}
 use Rattle.changes.proofs.release_sets.Tie as tie
 
 abbrev Inv-loop : tie.InvT-loop
-Inv-loop sets₀ rank i₀ sets i = (i ≤ mostObjects) × (sets ≡ mapped (λ v. without v rank) i sets₀)
+Inv-loop sets₀ rank left₀ i₀ sets left i =
+    (i ≤ mostObjects) × (sets ≡ mapped (λ v. without v rank) i sets₀) × (left ≡ unions i (λ o. without (at sets₀ o) rank))
 
 abbrev μ-loop : tie.MeasureT-loop
-μ-loop sets₀ rank i₀ sets i = mostObjects - i
+μ-loop sets₀ rank left₀ i₀ sets left i = mostObjects - i
 
 loop-holds : tie.Need-loop-holds Inv-loop μ-loop
-unfolding mapped
-loop-holds c = (omega arith, refl)
+unfolding mapped unions
+loop-holds c = (omega arith, refl, refl)
 
 mul-without : tie.Need-mul-without Inv-loop μ-loop
 mul-without c = search needs
@@ -38,6 +40,9 @@ mul-sets c = search needs
 element-write-sets : tie.Need-element-write-sets Inv-loop μ-loop
 element-write-sets c = search needs
 
+union-requires : tie.Need-union-requires Inv-loop μ-loop
+union-requires c κs = search needs
+
 add-i : tie.Need-add-i Inv-loop μ-loop
 add-i c = search needs
 
@@ -46,17 +51,28 @@ loop-less c = search needs
 
 loop-again : tie.Need-loop-again Inv-loop μ-loop
 loop-again c =
-    let i = c .before .before .before .loop .i in
-    let f : ℕ → ℕ = λ v. without v (c .before .before .before .before .args .rank) in (
+    let i = c .before .before .before .before .loop .i in
+    let before = c .before .before .before .before .before .args .sets .now in
+    let f : ℕ → ℕ = λ v. without v (c .before .before .before .before .before .args .rank) in
+    let kept = c .before .without .ensures ∙ ap (λ (x : List ℕ). f (getD x i 0)) (c .before .before .before .before .loop .inv .1) in (
       omega arith,
-      ap (λ (v : ℕ). set (c .before .before .before .loop .sets) i v) (c .without .ensures)
-          ∙ ap (λ (x : List ℕ). set x i (f (getD x i 0))) (c .before .before .before .loop .inv .1) ∙ mapped-more f i (c .before .before .before .before .args .sets .now),
+      ap (λ (v : ℕ). set (c .before .before .before .before .loop .sets) i v) (c .before .without .ensures)
+          ∙ ap (λ (x : List ℕ). set x i (f (getD x i 0))) (c .before .before .before .before .loop .inv .1) ∙ mapped-more f i before,
+      c .union .ensures ∙ ap₂ union (c .before .before .before .before .loop .inv .2) (kept ∙ ap f (mapped-rest f i before ∙ sym (at-next before i))) ∙ sym (next before f i),
     )
+  where
+    next : (before : List ℕ) (f : ℕ → ℕ) (i : ℕ) → unions (i + 1) (λ o. f (at before o)) ≡ union (unions i (λ o. f (at before o))) (f (at before (i + 1)))
+    next before f i =
+        let same : suc i ≡ i + 1 = omega arith in
+        unions-next i (λ o. f (at before o)) ∙ ap (λ (k : ℕ). union (unions i (λ o. f (at before o))) (f (at before k))) same
 
 returns : tie.Need-returns Inv-loop μ-loop
 returns c =
     let e : c .before .loop .i ≡ mostObjects = omega arith in
-    c .before .loop .inv .1 ∙ ap (λ (n : ℕ). mapped (λ v. without v (c .before .before .args .rank)) n (c .before .before .args .sets .now)) e
+    let before = c .before .before .args .sets .now in (
+      c .before .loop .inv .1 ∙ ap (λ (n : ℕ). mapped (λ v. without v (c .before .before .args .rank)) n before) e,
+      c .before .loop .inv .2 ∙ ap (λ (n : ℕ). unions n (λ o. without (at before o) (c .before .before .args .rank))) e,
+    )
 
 pub release-sets-spec : {M : Type 1} → statement M
 release-sets-spec =
@@ -70,6 +86,7 @@ release-sets-spec =
     without-requires
     mul-sets
     element-write-sets
+    union-requires
     add-i
     loop-less
     loop-again
