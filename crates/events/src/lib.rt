@@ -3,6 +3,7 @@ ghost use mathlib.Core.Path.{_≡_};
 ghost use mathlib.Core.List.{List};
 ghost use Prim.Native.Nat.{ℕ, _≤_};
 ghost use Rattle.state.specs.State.{mostJobs, mostObjects, certify, stateOf};
+ghost use Rattle.state.specs.Holders.{HolderFacts, heldState};
 ghost use Rattle.refusals.specs.Accepting.{RequestsFit, InRange};
 ghost use Rattle.events.specs.Events as E;
 
@@ -10,11 +11,13 @@ mod packing;
 
 use changes::drop_marks;
 use changes::grant;
+use changes::holder_of;
 use changes::mode_of_request;
 use changes::object_of_request;
 use changes::release;
 use changes::release_sets;
 use changes::store_request;
+use one_holder::deciding_key;
 pub use packing::pack;
 use ranks::RankSet;
 use refusals::certify_refusal;
@@ -48,7 +51,7 @@ pub struct Outcome {
 // Kind 1: the job becomes active.
 fn start(counts: Counts, active: &mut RankSet, rank: u8, object: u8) -> Answer
     requires { ⌜ counts .jobs ≤ mostJobs ⌝ }
-    ensures { λ r. ⌜ ((u z : ℕ) (ps mr mw rs ws cs q : List ℕ) →
+    ensures { λ r. ⌜ ((u z h : ℕ) (ps mr mw rs ws cs q : List ℕ) →
         E.outcome r (stateOf counts ps mr mw (now (active .exit)) u z h rs ws cs q)
         ≡ E.perform (stateOf counts ps mr mw (now (active .entry)) u z h rs ws cs q) 1 rank object) ⌝ }
 {
@@ -65,6 +68,7 @@ fn grant_or_wait<'a>(
     counts: Counts,
     may_read: Sets<'a>,
     may_write: Sets<'a>,
+    holder: &mut u8,
     readers: SetsMut,
     writers: SetsMut,
     certified: &mut ObjectMarks,
@@ -73,15 +77,17 @@ fn grant_or_wait<'a>(
     rank: u8,
     object: u8,
 ) -> Answer
-    requires { ⌜ (counts .objects ≤ mostObjects) × (1 ≤ mode) × (mode ≤ certify) × (1 ≤ rank) × (rank ≤ mostJobs) × (1 ≤ object) × (object ≤ mostObjects) ⌝ }
+    requires { ⌜ (1 ≤ mode) × (mode ≤ certify) × (1 ≤ rank) × (rank ≤ mostJobs) × (1 ≤ object) × (object ≤ mostObjects)
+        × HolderFacts (heldState counts (now «may_read») (now «may_write») (now holder) (now readers) (now writers) (now certified)) ⌝ }
     ensures { λ r. ⌜ ((a u z : ℕ) (ps : List ℕ) →
-        E.outcome r (stateOf counts ps (now («may_read» .entry)) (now («may_write» .entry)) a u z h (now (readers .exit)) (now (writers .exit)) (now (certified .exit)) (now (request .exit)))
-        ≡ E.request (stateOf counts ps (now («may_read» .entry)) (now («may_write» .entry)) a u z h (now (readers .entry)) (now (writers .entry)) (now (certified .entry)) (now (request .entry))) mode rank object) ⌝ }
+        E.outcome r (stateOf counts ps (now («may_read» .entry)) (now («may_write» .entry)) a u z (now (holder .exit)) (now (readers .exit)) (now (writers .exit)) (now (certified .exit)) (now (request .exit)))
+        ≡ E.request (stateOf counts ps (now («may_read» .entry)) (now («may_write» .entry)) a u z (now (holder .entry)) (now (readers .entry)) (now (writers .entry)) (now (certified .entry)) (now (request .entry))) mode rank object) ⌝ }
 {
-    let key = weights::lowest_key(
+    let key = deciding_key(
         counts,
         may_read,
         may_write,
+        *holder,
         readers,
         writers,
         certified,
@@ -89,15 +95,16 @@ fn grant_or_wait<'a>(
     );
     if rule::passes(rank, key) {
         grant(readers, writers, certified, request, mode, rank, object);
+        *holder = rank;
         return Answer::Granted;
     }
-    let holder = weights::key_holder(key);
+    let other = weights::key_holder(key);
     let named = weights::key_object(key);
     let reason = rule::reason(
         counts.version,
         mode,
         object,
-        holder,
+        other,
         named,
         state::shares_with_none(counts.version, certified, named),
         set_of(writers, named),
@@ -105,7 +112,7 @@ fn grant_or_wait<'a>(
     );
     store_request(request, rank, (mode as u16) * 256 + (object as u16));
     Answer::Waits {
-        holder,
+        holder: other,
         object: named,
         reason,
     }
@@ -119,6 +126,7 @@ fn lock<'a>(
     active: RankSet,
     unlocked: RankSet,
     sleeping: RankSet,
+    holder: &mut u8,
     readers: SetsMut,
     writers: SetsMut,
     certified: &mut ObjectMarks,
@@ -127,10 +135,11 @@ fn lock<'a>(
     rank: u8,
     object: u8,
 ) -> Answer
-    requires { ⌜ (counts .jobs ≤ mostJobs) × (counts .objects ≤ mostObjects) × (2 ≤ kind) × (kind ≤ 3) ⌝ }
+    requires { ⌜ (counts .jobs ≤ mostJobs) × (2 ≤ kind) × (kind ≤ 3)
+        × HolderFacts (heldState counts (now «may_read») (now «may_write») (now holder) (now readers) (now writers) (now certified)) ⌝ }
     ensures { λ r. ⌜ ((ps : List ℕ) →
-        E.outcome r (stateOf counts ps (now («may_read» .entry)) (now («may_write» .entry)) active unlocked sleeping holder (now (readers .exit)) (now (writers .exit)) (now (certified .exit)) (now (request .exit)))
-        ≡ E.perform (stateOf counts ps (now («may_read» .entry)) (now («may_write» .entry)) active unlocked sleeping holder (now (readers .entry)) (now (writers .entry)) (now (certified .entry)) (now (request .entry))) kind rank object) ⌝ }
+        E.outcome r (stateOf counts ps (now («may_read» .entry)) (now («may_write» .entry)) active unlocked sleeping (now (holder .exit)) (now (readers .exit)) (now (writers .exit)) (now (certified .exit)) (now (request .exit)))
+        ≡ E.perform (stateOf counts ps (now («may_read» .entry)) (now («may_write» .entry)) active unlocked sleeping (now (holder .entry)) (now (readers .entry)) (now (writers .entry)) (now (certified .entry)) (now (request .entry))) kind rank object) ⌝ }
 {
     let number = lock_refusal(
         counts,
@@ -153,6 +162,7 @@ fn lock<'a>(
         counts,
         may_read,
         may_write,
+        holder,
         readers,
         writers,
         certified,
@@ -172,6 +182,7 @@ fn certify<'a>(
     active: RankSet,
     unlocked: RankSet,
     sleeping: RankSet,
+    holder: &mut u8,
     readers: SetsMut,
     writers: SetsMut,
     certified: &mut ObjectMarks,
@@ -179,10 +190,11 @@ fn certify<'a>(
     rank: u8,
     object: u8,
 ) -> Answer
-    requires { ⌜ (counts .jobs ≤ mostJobs) × (counts .objects ≤ mostObjects) ⌝ }
+    requires { ⌜ (counts .jobs ≤ mostJobs)
+        × HolderFacts (heldState counts (now «may_read») (now «may_write») (now holder) (now readers) (now writers) (now certified)) ⌝ }
     ensures { λ r. ⌜ ((ps : List ℕ) →
-        E.outcome r (stateOf counts ps (now («may_read» .entry)) (now («may_write» .entry)) active unlocked sleeping holder (now (readers .exit)) (now (writers .exit)) (now (certified .exit)) (now (request .exit)))
-        ≡ E.perform (stateOf counts ps (now («may_read» .entry)) (now («may_write» .entry)) active unlocked sleeping holder (now (readers .entry)) (now (writers .entry)) (now (certified .entry)) (now (request .entry))) 7 rank object) ⌝ }
+        E.outcome r (stateOf counts ps (now («may_read» .entry)) (now («may_write» .entry)) active unlocked sleeping (now (holder .exit)) (now (readers .exit)) (now (writers .exit)) (now (certified .exit)) (now (request .exit)))
+        ≡ E.perform (stateOf counts ps (now («may_read» .entry)) (now («may_write» .entry)) active unlocked sleeping (now (holder .entry)) (now (readers .entry)) (now (writers .entry)) (now (certified .entry)) (now (request .entry))) 7 rank object) ⌝ }
 {
     let number = certify_refusal(
         counts,
@@ -203,6 +215,7 @@ fn certify<'a>(
         counts,
         may_read,
         may_write,
+        holder,
         readers,
         writers,
         certified,
@@ -219,20 +232,23 @@ fn wake<'a>(
     counts: Counts,
     may_read: Sets<'a>,
     may_write: Sets<'a>,
+    holder: &mut u8,
     readers: SetsMut,
     writers: SetsMut,
     certified: &mut ObjectMarks,
     request: &mut JobRequests,
 ) -> Answer
-    requires { ⌜ (counts .jobs ≤ mostJobs) × (counts .objects ≤ mostObjects) × RequestsFit (now request) ⌝ }
+    requires { ⌜ (counts .jobs ≤ mostJobs) × RequestsFit (now request)
+        × HolderFacts (heldState counts (now «may_read») (now «may_write») (now holder) (now readers) (now writers) (now certified)) ⌝ }
     ensures { λ r. ⌜ ((a u z : ℕ) (ps : List ℕ) →
-        E.outcome r (stateOf counts ps (now («may_read» .entry)) (now («may_write» .entry)) a u z h (now (readers .exit)) (now (writers .exit)) (now (certified .exit)) (now (request .exit)))
-        ≡ E.wake (stateOf counts ps (now («may_read» .entry)) (now («may_write» .entry)) a u z h (now (readers .entry)) (now (writers .entry)) (now (certified .entry)) (now (request .entry)))) ⌝ }
+        E.outcome r (stateOf counts ps (now («may_read» .entry)) (now («may_write» .entry)) a u z (now (holder .exit)) (now (readers .exit)) (now (writers .exit)) (now (certified .exit)) (now (request .exit)))
+        ≡ E.wake (stateOf counts ps (now («may_read» .entry)) (now («may_write» .entry)) a u z (now (holder .entry)) (now (readers .entry)) (now (writers .entry)) (now (certified .entry)) (now (request .entry)))) ⌝ }
 {
     let rank = rule::wakeable(
         counts,
         may_read,
         may_write,
+        *holder,
         readers,
         writers,
         certified,
@@ -249,6 +265,7 @@ fn wake<'a>(
             rank,
             object_of_request(asked),
         );
+        *holder = rank;
     }
     Answer::Done(rank)
 }
@@ -261,6 +278,7 @@ fn unlock<'a>(
     active: RankSet,
     unlocked: &mut RankSet,
     sleeping: RankSet,
+    holder: &mut u8,
     readers: SetsMut,
     writers: SetsMut,
     certified: &mut ObjectMarks,
@@ -268,10 +286,11 @@ fn unlock<'a>(
     rank: u8,
     object: u8,
 ) -> Answer
-    requires { ⌜ InRange counts (now request) ⌝ }
+    requires { ⌜ InRange counts (now request)
+        × HolderFacts (heldState counts (now «may_read») (now «may_write») (now holder) (now readers) (now writers) (now certified)) ⌝ }
     ensures { λ r. ⌜ ((ps : List ℕ) →
-        E.outcome r (stateOf counts ps (now («may_read» .entry)) (now («may_write» .entry)) active (now (unlocked .exit)) sleeping holder (now (readers .exit)) (now (writers .exit)) (now (certified .exit)) (now (request .exit)))
-        ≡ E.perform (stateOf counts ps (now («may_read» .entry)) (now («may_write» .entry)) active (now (unlocked .entry)) sleeping holder (now (readers .entry)) (now (writers .entry)) (now (certified .entry)) (now (request .entry))) 4 rank object) ⌝ }
+        E.outcome r (stateOf counts ps (now («may_read» .entry)) (now («may_write» .entry)) active (now (unlocked .exit)) sleeping (now (holder .exit)) (now (readers .exit)) (now (writers .exit)) (now (certified .exit)) (now (request .exit)))
+        ≡ E.perform (stateOf counts ps (now («may_read» .entry)) (now («may_write» .entry)) active (now (unlocked .entry)) sleeping (now (holder .entry)) (now (readers .entry)) (now (writers .entry)) (now (certified .entry)) (now (request .entry))) 4 rank object) ⌝ }
 {
     let number = unlock_refusal(
         counts,
@@ -287,10 +306,14 @@ fn unlock<'a>(
         return Answer::Refused(number);
     }
     release(unlocked, readers, rank, object);
+    if *holder == rank {
+        *holder = holder_of(readers, writers);
+    }
     wake(
         counts,
         may_read,
         may_write,
+        holder,
         readers,
         writers,
         certified,
@@ -306,13 +329,15 @@ fn end_run<'a>(
     active: &mut RankSet,
     unlocked: &mut RankSet,
     sleeping: &mut RankSet,
+    holder: &mut u8,
     readers: SetsMut,
     writers: SetsMut,
     certified: &mut ObjectMarks,
     request: &mut JobRequests,
     rank: u8,
 ) -> Answer
-    requires { ⌜ (counts .jobs ≤ mostJobs) × (counts .objects ≤ mostObjects) × (1 ≤ rank) × (rank ≤ mostJobs) × RequestsFit (now request) ⌝ }
+    requires { ⌜ (counts .jobs ≤ mostJobs) × (1 ≤ rank) × (rank ≤ mostJobs) × RequestsFit (now request)
+        × HolderFacts (heldState counts (now «may_read») (now «may_write») (now holder) (now readers) (now writers) (now certified)) ⌝ }
     ensures { λ r. ⌜ ((ps : List ℕ) →
         E.outcome r (stateOf counts ps (now («may_read» .entry)) (now («may_write» .entry)) (now (active .exit)) (now (unlocked .exit)) (now (sleeping .exit)) (now (holder .exit)) (now (readers .exit)) (now (writers .exit)) (now (certified .exit)) (now (request .exit)))
         ≡ E.finish (stateOf counts ps (now («may_read» .entry)) (now («may_write» .entry)) (now (active .entry)) (now (unlocked .entry)) (now (sleeping .entry)) (now (holder .entry)) (now (readers .entry)) (now (writers .entry)) (now (certified .entry)) (now (request .entry))) rank) ⌝ }
@@ -321,13 +346,15 @@ fn end_run<'a>(
     *unlocked = ranks::without(*unlocked, rank);
     *sleeping = ranks::without(*sleeping, rank);
     drop_marks(certified, writers, rank);
-    release_sets(readers, rank);
-    release_sets(writers, rank);
+    let reading = release_sets(readers, rank);
+    let writing = release_sets(writers, rank);
+    *holder = ranks::most_urgent(ranks::union(reading, writing));
     store_request(request, rank, 0);
     wake(
         counts,
         may_read,
         may_write,
+        holder,
         readers,
         writers,
         certified,
@@ -343,6 +370,7 @@ fn finish<'a>(
     active: &mut RankSet,
     unlocked: &mut RankSet,
     sleeping: &mut RankSet,
+    holder: &mut u8,
     readers: SetsMut,
     writers: SetsMut,
     certified: &mut ObjectMarks,
@@ -351,7 +379,8 @@ fn finish<'a>(
     rank: u8,
     object: u8,
 ) -> Answer
-    requires { ⌜ InRange counts (now request) × (5 ≤ kind) × (kind ≤ 6) ⌝ }
+    requires { ⌜ InRange counts (now request) × (5 ≤ kind) × (kind ≤ 6)
+        × HolderFacts (heldState counts (now «may_read») (now «may_write») (now holder) (now readers) (now writers) (now certified)) ⌝ }
     ensures { λ r. ⌜ ((ps : List ℕ) →
         E.outcome r (stateOf counts ps (now («may_read» .entry)) (now («may_write» .entry)) (now (active .exit)) (now (unlocked .exit)) (now (sleeping .exit)) (now (holder .exit)) (now (readers .exit)) (now (writers .exit)) (now (certified .exit)) (now (request .exit)))
         ≡ E.perform (stateOf counts ps (now («may_read» .entry)) (now («may_write» .entry)) (now (active .entry)) (now (unlocked .entry)) (now (sleeping .entry)) (now (holder .entry)) (now (readers .entry)) (now (writers .entry)) (now (certified .entry)) (now (request .entry))) kind rank object) ⌝ }
@@ -377,6 +406,7 @@ fn finish<'a>(
         active,
         unlocked,
         sleeping,
+        holder,
         readers,
         writers,
         certified,
@@ -396,9 +426,9 @@ fn sleep_or_awaken(
     object: u8,
 ) -> Answer
     requires { ⌜ (counts .jobs ≤ mostJobs) × (8 ≤ kind) × (kind ≤ 9) ⌝ }
-    ensures { λ r. ⌜ ((u : ℕ) (ps mr mw rs ws cs : List ℕ) →
-        E.outcome r (stateOf counts ps mr mw active u (now (sleeping .exit)) (now (holder .exit)) rs ws cs (now (request .entry)))
-        ≡ E.perform (stateOf counts ps mr mw active u (now (sleeping .entry)) (now (holder .entry)) rs ws cs (now (request .entry))) kind rank object) ⌝ }
+    ensures { λ r. ⌜ ((u h : ℕ) (ps mr mw rs ws cs : List ℕ) →
+        E.outcome r (stateOf counts ps mr mw active u (now (sleeping .exit)) h rs ws cs (now (request .entry)))
+        ≡ E.perform (stateOf counts ps mr mw active u (now (sleeping .entry)) h rs ws cs (now (request .entry))) kind rank object) ⌝ }
 {
     let asleep = *sleeping;
     let number = sleep_refusal(counts, active, asleep, request, kind, rank, object);
@@ -421,6 +451,7 @@ pub fn perform<'a>(
     active: &mut RankSet,
     unlocked: &mut RankSet,
     sleeping: &mut RankSet,
+    holder: &mut u8,
     readers: SetsMut,
     writers: SetsMut,
     certified: &mut ObjectMarks,
@@ -429,7 +460,8 @@ pub fn perform<'a>(
     rank: u8,
     object: u8,
 ) -> Answer
-    requires { ⌜ InRange counts (now request) ⌝ }
+    requires { ⌜ InRange counts (now request)
+        × HolderFacts (heldState counts (now «may_read») (now «may_write») (now holder) (now readers) (now writers) (now certified)) ⌝ }
     ensures { λ r. ⌜ ((ps : List ℕ) →
         E.outcome r (stateOf counts ps (now («may_read» .entry)) (now («may_write» .entry)) (now (active .exit)) (now (unlocked .exit)) (now (sleeping .exit)) (now (holder .exit)) (now (readers .exit)) (now (writers .exit)) (now (certified .exit)) (now (request .exit)))
         ≡ E.perform (stateOf counts ps (now («may_read» .entry)) (now («may_write» .entry)) (now (active .entry)) (now (unlocked .entry)) (now (sleeping .entry)) (now (holder .entry)) (now (readers .entry)) (now (writers .entry)) (now (certified .entry)) (now (request .entry))) kind rank object) ⌝ }
@@ -443,6 +475,7 @@ pub fn perform<'a>(
             *active,
             *unlocked,
             *sleeping,
+            holder,
             readers,
             writers,
             certified,
@@ -458,6 +491,7 @@ pub fn perform<'a>(
             *active,
             unlocked,
             *sleeping,
+            holder,
             readers,
             writers,
             certified,
@@ -472,6 +506,7 @@ pub fn perform<'a>(
             active,
             unlocked,
             sleeping,
+            holder,
             readers,
             writers,
             certified,
@@ -487,6 +522,7 @@ pub fn perform<'a>(
             *active,
             *unlocked,
             *sleeping,
+            holder,
             readers,
             writers,
             certified,

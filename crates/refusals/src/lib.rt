@@ -59,7 +59,7 @@ fn ready_refusal(ready: bool, request: &JobRequests, sleeping: RankSet, rank: u8
 // 10 to 12, of a start.
 pub fn start_refusal(counts: Counts, active: RankSet, rank: u8, object: u8) -> u8
     requires { ⌜ counts .jobs ≤ mostJobs ⌝ }
-    ensures { λ r. ⌜ ((u z : ℕ) (ps mr mw rs ws cs q : List ℕ) →
+    ensures { λ r. ⌜ ((u z h : ℕ) (ps mr mw rs ws cs q : List ℕ) →
         r ≡ R.eventRefusal (stateOf counts ps mr mw active u z h rs ws cs q) 1 rank object) ⌝ }
 {
     if !within(1, counts.jobs, rank) {
@@ -109,8 +109,8 @@ pub fn lock_refusal<'a>(
     object: u8,
 ) -> u8
     requires { ⌜ (counts .jobs ≤ mostJobs) × (counts .objects ≤ mostObjects) × (2 ≤ kind) × (kind ≤ 3) ⌝ }
-    ensures { λ r. ⌜ ((ps cs : List ℕ) →
-        r ≡ R.eventRefusal (stateOf counts ps (now («may_read» .entry)) (now («may_write» .entry)) active unlocked sleeping holder
+    ensures { λ r. ⌜ ((h : ℕ) (ps cs : List ℕ) →
+        r ≡ R.eventRefusal (stateOf counts ps (now («may_read» .entry)) (now («may_write» .entry)) active unlocked sleeping h
         (now (readers .entry)) (now (writers .entry)) cs (now (request .entry))) kind rank object) ⌝ }
 {
     if !within(1, counts.jobs, rank) {
@@ -147,8 +147,8 @@ pub fn unlock_refusal<'a>(
     object: u8,
 ) -> u8
     requires { ⌜ (counts .jobs ≤ mostJobs) × (counts .objects ≤ mostObjects) ⌝ }
-    ensures { λ r. ⌜ ((u : ℕ) (ps mr mw cs : List ℕ) →
-        r ≡ R.eventRefusal (stateOf counts ps mr mw active u sleeping holder (now (readers .entry)) (now (writers .entry)) cs (now (request .entry))) 4 rank object) ⌝ }
+    ensures { λ r. ⌜ ((u h : ℕ) (ps mr mw cs : List ℕ) →
+        r ≡ R.eventRefusal (stateOf counts ps mr mw active u sleeping h (now (readers .entry)) (now (writers .entry)) cs (now (request .entry))) 4 rank object) ⌝ }
 {
     if !within(1, counts.jobs, rank) {
         return 10;
@@ -180,8 +180,8 @@ pub fn certify_refusal<'a>(
     object: u8,
 ) -> u8
     requires { ⌜ (counts .jobs ≤ mostJobs) × (counts .objects ≤ mostObjects) ⌝ }
-    ensures { λ r. ⌜ ((ps mr rs : List ℕ) →
-        r ≡ R.eventRefusal (stateOf counts ps mr (now («may_write» .entry)) active unlocked sleeping holder rs (now (writers .entry)) (now (certified .entry)) (now (request .entry))) 7 rank object) ⌝ }
+    ensures { λ r. ⌜ ((h : ℕ) (ps mr rs : List ℕ) →
+        r ≡ R.eventRefusal (stateOf counts ps mr (now («may_write» .entry)) active unlocked sleeping h rs (now (writers .entry)) (now (certified .entry)) (now (request .entry))) 7 rank object) ⌝ }
 {
     if counts.version == 1 {
         return 9;
@@ -256,7 +256,7 @@ fn certify_first<'a>(
     rank: u8,
 ) -> u8
     requires { ⌜ (counts .objects ≤ mostObjects) × (1 ≤ rank) × (rank ≤ mostJobs) ⌝ }
-    ensures { λ r. ⌜ ((a u z : ℕ) (ps mr mw rs q : List ℕ) →
+    ensures { λ r. ⌜ ((a u z h : ℕ) (ps mr mw rs q : List ℕ) →
         r ≡ (25 if eqb kind 5 && not (R.allCertified (stateOf counts ps mr mw a u z h rs (now (writers .entry)) (now (certified .entry)) q) rank) else 0)) ⌝ }
 {
     if (counts.version == 1) | (kind != 5) {
@@ -282,8 +282,8 @@ pub fn finish_refusal<'a>(
     object: u8,
 ) -> u8
     requires { ⌜ (counts .jobs ≤ mostJobs) × (counts .objects ≤ mostObjects) × (5 ≤ kind) × (kind ≤ 6) ⌝ }
-    ensures { λ r. ⌜ ((u : ℕ) (ps mr mw rs : List ℕ) →
-        r ≡ R.eventRefusal (stateOf counts ps mr mw active u sleeping holder rs (now (writers .entry)) (now (certified .entry)) (now (request .entry))) kind rank object) ⌝ }
+    ensures { λ r. ⌜ ((u h : ℕ) (ps mr mw rs : List ℕ) →
+        r ≡ R.eventRefusal (stateOf counts ps mr mw active u sleeping h rs (now (writers .entry)) (now (certified .entry)) (now (request .entry))) kind rank object) ⌝ }
 {
     if !within(1, counts.jobs, rank) {
         return 10;
@@ -307,8 +307,8 @@ pub fn sleep_refusal(
     object: u8,
 ) -> u8
     requires { ⌜ (counts .jobs ≤ mostJobs) × (8 ≤ kind) × (kind ≤ 9) ⌝ }
-    ensures { λ r. ⌜ ((u : ℕ) (ps mr mw rs ws cs : List ℕ) →
-        r ≡ R.eventRefusal (stateOf counts ps mr mw active u sleeping holder rs ws cs (now (request .entry))) kind rank object) ⌝ }
+    ensures { λ r. ⌜ ((u h : ℕ) (ps mr mw rs ws cs : List ℕ) →
+        r ≡ R.eventRefusal (stateOf counts ps mr mw active u sleeping h rs ws cs (now (request .entry))) kind rank object) ⌝ }
 {
     if !within(1, counts.jobs, rank) {
         return 10;

@@ -15,7 +15,7 @@ use Rattle.refusals.proofs.all_certified.Reads as all-certified-reads
 use Rattle.refusals.proofs.refused_if.Reads as refused-if-reads
 
 returns : tie.Need-returns
-returns c = λ a u z ps mr mw rs q. certify-first-none (stateOf (c .before .before .args .counts) ps mr mw a u z h rs (now (c .before .before .args .writers)) (now (c .before .before .args .certified)) q) (c .before .before .args .kind) (c .before .before .args .rank) (c .if1 .taken)
+returns c = λ a u z h ps mr mw rs q. certify-first-none (stateOf (c .before .before .args .counts) ps mr mw a u z h rs (now (c .before .before .args .writers)) (now (c .before .before .args .certified)) q) (c .before .before .args .kind) (c .before .before .args .rank) (c .if1 .taken)
 
 all-certified-requires : tie.Need-all-certified-requires
 all-certified-requires c κs = search needs
@@ -25,7 +25,7 @@ refused-if-requires c κs = search needs
 
 returns-2 : tie.Need-returns-2
 returns-2 c =
-    λ a u z ps mr mw rs q. c .refused-if .ensures ∙ ap (λ (b : Bool). 25 if not b else 0) (c .before .all-certified .ensures)
+    λ a u z h ps mr mw rs q. c .refused-if .ensures ∙ ap (λ (b : Bool). 25 if not b else 0) (c .before .all-certified .ensures)
     ∙ certify-first-some (stateOf (c .before .before .before .before .args .counts) ps mr mw a u z h rs (now (c .before .before .before .before .args .writers)) (now (c .before .before .before .before .args .certified)) q) (c .before .before .before .before .args .kind) (c .before .before .before .before .args .rank) (c .before .before .if1 .left)
 
 pub certify-first-spec : {M : Type 1} → statement M

@@ -29,34 +29,34 @@ use Rattle.state.proofs.within.Reads as within-reads
 use Rattle.state.proofs.is_marked.Reads as is-marked-reads
 
 -- the state that the parts are of, with any other parts
-abbrev whole : (c : tie.Start) → List ℕ → List ℕ → List ℕ → State
-whole c ps mr rs = let a = c .args in
-    stateOf (a .counts) ps mr (now (a .may-write)) (a .active) (a .unlocked) (a .sleeping) (a .holder) rs (now (a .writers)) (now (a .certified)) (now (a .request))
+abbrev whole : (c : tie.Start) → ℕ → List ℕ → List ℕ → List ℕ → State
+whole c h ps mr rs = let a = c .args in
+    stateOf (a .counts) ps mr (now (a .may-write)) (a .active) (a .unlocked) (a .sleeping) h rs (now (a .writers)) (now (a .certified)) (now (a .request))
 
 -- what the chain comes to for a request to certify
-chain : (c : tie.Start) (ps mr rs : List ℕ) → let a = c .args in let s = whole c ps mr rs in
+chain : (c : tie.Start) (h : ℕ) (ps mr rs : List ℕ) → let a = c .args in let s = whole c h ps mr rs in
     eventRefusal s 7 (a .rank) (a .object)
     ≡ (9 if eqb (a .counts .version) 1 else 10 if not (isRank s (a .rank)) else 11 if not (isObject s (a .object)) else 13 if not (isActive s (a .rank)) else
     14 if isWaiting s (a .rank) else 26 if isSleeping s (a .rank) else
     certifyRefusal (a .rank) (a .unlocked) (declared s write (a .object)) (holders s write (a .object)) (isCertified s (a .object)))
-chain c ps mr rs = certify-refusal (whole c ps mr rs) (c .args .rank) (c .args .object)
+chain c h ps mr rs = certify-refusal (whole c h ps mr rs) (c .args .rank) (c .args .object)
 
 returns : tie.Need-returns
-returns c = λ ps mr rs. sym (chain ((c .before .before)) ps mr rs ∙ simp (eq-eqb (c .before .before .args .counts .version) 1 (c .if1 .taken)))
+returns c = λ h ps mr rs. sym (chain ((c .before .before)) h ps mr rs ∙ simp (eq-eqb (c .before .before .args .counts .version) 1 (c .if1 .taken)))
 
 within-requires : tie.Need-within-requires
 within-requires c κs = search needs
 
 returns-2 : tie.Need-returns-2
 returns-2 c =
-    λ ps mr rs. sym (chain ((c .before .before .before .before)) ps mr rs ∙ simp (ne-eqb (c .before .before .before .before .args .counts .version) 1 (c .before .before .if1 .left), sym (c .before .within .ensures) ∙ not-true (c .before .within .result) (c .if2 .taken)))
+    λ h ps mr rs. sym (chain ((c .before .before .before .before)) h ps mr rs ∙ simp (ne-eqb (c .before .before .before .before .args .counts .version) 1 (c .before .before .if1 .left), sym (c .before .within .ensures) ∙ not-true (c .before .within .result) (c .if2 .taken)))
 
 within-requires-2 : tie.Need-within-requires-2
 within-requires-2 c κs = search needs
 
 returns-3 : tie.Need-returns-3
 returns-3 c =
-    λ ps mr rs. sym (chain ((c .before .before .before .before .before .before)) ps mr rs ∙ simp (
+    λ h ps mr rs. sym (chain ((c .before .before .before .before .before .before)) h ps mr rs ∙ simp (
       ne-eqb (c .before .before .before .before .before .before .args .counts .version) 1 (c .before .before .before .before .if1 .left),
       sym (c .before .before .before .within .ensures) ∙ not-false (c .before .before .before .within .result) (c .before .before .if2 .left),
       sym (c .before .within2 .ensures) ∙ not-true (c .before .within2 .result) (c .if3 .taken),
@@ -110,12 +110,12 @@ returns-4 c =
     let held = c .before .before .before .before .before .before .before .before .refused-if2 .ensures ∙ ap₂ (λ (b : Bool) (n : ℕ). 17 if b else n) (ap₂ _&&_ written (c .before .before .before .before .before .before .before .before .before .is-marked .ensures)) not-written in
     let no-right = c .before .before .before .before .before .refused-if3 .ensures ∙ ap₂ (λ (b : Bool) (n : ℕ). 16 if not b else n) right held in
     let all = c .before .refused-if4 .ensures ∙ ap₂ (λ (b : Bool) (n : ℕ). 15 if b else n) (c .before .before .contains4 .ensures) no-right in
-    λ ps mr rs. c .job-event-refusal .ensures
+    λ h ps mr rs. c .job-event-refusal .ensures
     ∙ ap₂ (λ (b : Bool) (n : ℕ). 13 if not b else (n orElse c .before .refused-if4 .result)) (c .before .before .before .before .contains3 .ensures) (c .before .before .before .ready-refusal .ensures)
     ∙ ap (λ (n : ℕ). 13 if not (member (a .active) (a .rank)) else n)
     (ready-first (not (eqb (at (now (a .request)) (a .rank)) 0)) (member (a .sleeping) (a .rank)) (c .before .refused-if4 .result))
     ∙ ap (λ (n : ℕ). 13 if not (member (a .active) (a .rank)) else 14 if not (eqb (at (now (a .request)) (a .rank)) 0) else 26 if member (a .sleeping) (a .rank) else n) all
-    ∙ sym (certify-behind (whole ((c .before .before .before .before .before .before .before .before .before .before .before .before .before .before .before .before .before .before .before)) ps mr rs) (a .rank) (a .object) (ne-eqb (a .counts .version) 1 (c .before .before .before .before .before .before .before .before .before .before .before .before .before .before .before .before .before .if1 .left))
+    ∙ sym (certify-behind (whole ((c .before .before .before .before .before .before .before .before .before .before .before .before .before .before .before .before .before .before .before)) h ps mr rs) (a .rank) (a .object) (ne-eqb (a .counts .version) 1 (c .before .before .before .before .before .before .before .before .before .before .before .before .before .before .before .before .before .if1 .left))
     (sym (c .before .before .before .before .before .before .before .before .before .before .before .before .before .before .before .before .within .ensures) ∙ not-false (c .before .before .before .before .before .before .before .before .before .before .before .before .before .before .before .before .within .result) (c .before .before .before .before .before .before .before .before .before .before .before .before .before .before .before .if2 .left)) (sym (c .before .before .before .before .before .before .before .before .before .before .before .before .before .before .within2 .ensures) ∙ not-false (c .before .before .before .before .before .before .before .before .before .before .before .before .before .before .within2 .result) (c .before .before .before .before .before .before .before .before .before .before .before .before .before .if3 .left)))
 
 pub certify-refusal-spec : {M : Type 1} → statement M

@@ -25,9 +25,9 @@ use Rattle.refusals.proofs.refused_if.Reads as refused-if-reads
 use Rattle.state.proofs.within.Reads as within-reads
 
 -- the state that the parts are of, with any other parts
-abbrev whole : (c : tie.Start) → ℕ → List ℕ → List ℕ → List ℕ → List ℕ → State
-whole c u ps mr mw rs = let a = c .args in
-    stateOf (a .counts) ps mr mw (a .active) u (a .sleeping) (a .holder) rs (now (a .writers)) (now (a .certified)) (now (a .request))
+abbrev whole : (c : tie.Start) → ℕ → ℕ → List ℕ → List ℕ → List ℕ → List ℕ → State
+whole c u h ps mr mw rs = let a = c .args in
+    stateOf (a .counts) ps mr mw (a .active) u (a .sleeping) h rs (now (a .writers)) (now (a .certified)) (now (a .request))
 
 within-requires : tie.Need-within-requires
 within-requires c κs = search needs
@@ -35,7 +35,7 @@ within-requires c κs = search needs
 returns : tie.Need-returns
 returns c =
     let a = c .before .before .args in
-    λ u ps mr mw rs. sym (P.finish-refusal (whole ((c .before .before)) u ps mr mw rs) (a .kind) (a .rank) (a .object) (c .before .before .pre .2) (c .before .before .pre .3) ∙ simp (sym (c .before .within .ensures) ∙ not-true (c .before .within .result) (c .if1 .taken)))
+    λ u h ps mr mw rs. sym (P.finish-refusal (whole ((c .before .before)) u h ps mr mw rs) (a .kind) (a .rank) (a .object) (c .before .before .pre .2) (c .before .before .pre .3) ∙ simp (sym (c .before .within .ensures) ∙ not-true (c .before .within .result) (c .if1 .taken)))
 
 contains-requires : tie.Need-contains-requires
 contains-requires c κs = let b = between-true 1 (c .before .before .args .counts .jobs) (c .before .before .args .rank) (sym (c .before .within .ensures) ∙ not-false (c .before .within .result) (c .if1 .left)) in (b .0, omega (arith, b .1, c .before .before .pre))
@@ -55,9 +55,9 @@ refused-if-requires c κs = search needs
 returns-2 : tie.Need-returns-2
 returns-2 c =
     let a = c .before .before .before .before .before .before .before .args in
-    λ u ps mr mw rs.
-    let s = whole ((c .before .before .before .before .before .before .before)) u ps mr mw rs in
-    let last = c .before .before .certify-first .ensures (a .active) u (a .sleeping) ps mr mw rs (now (a .request)) in
+    λ u h ps mr mw rs.
+    let s = whole ((c .before .before .before .before .before .before .before)) u h ps mr mw rs in
+    let last = c .before .before .certify-first .ensures (a .active) u (a .sleeping) h ps mr mw rs (now (a .request)) in
     c .refused-if .ensures
     ∙ ap (λ (n : ℕ). 11 if not (eqb (a .object) 0) else n)
     (c .before .job-event-refusal .ensures ∙ ap₂ (λ (b : Bool) (n : ℕ). 13 if not b else (n orElse c .before .before .certify-first .result)) (c .before .before .before .before .contains .ensures) (c .before .before .before .ready-refusal .ensures)

@@ -17,8 +17,8 @@ use Rattle.refusals.proofs.sleep_refusal.Statement.{statement}
 use Rattle.refusals.proofs.sleep_refusal.Tie as tie
 
 -- the state that the parts are of, with any other parts
-abbrev whole : (c : tie.Start) → ℕ → List ℕ → List ℕ → List ℕ → List ℕ → List ℕ → List ℕ → State
-whole c u ps mr mw rs ws cs = let a = c .args in stateOf (a .counts) ps mr mw (a .active) u (a .sleeping) (a .holder) rs ws cs (now (a .request))
+abbrev whole : (c : tie.Start) → ℕ → ℕ → List ℕ → List ℕ → List ℕ → List ℕ → List ℕ → List ℕ → State
+whole c u h ps mr mw rs ws cs = let a = c .args in stateOf (a .counts) ps mr mw (a .active) u (a .sleeping) h rs ws cs (now (a .request))
 
 within-requires : tie.Need-within-requires
 within-requires c κs = search needs
@@ -26,7 +26,7 @@ within-requires c κs = search needs
 returns : tie.Need-returns
 returns c =
     let a = c .before .before .args in
-    λ u ps mr mw rs ws cs. sym (P.sleep-refusal (whole ((c .before .before)) u ps mr mw rs ws cs) (a .kind) (a .rank) (a .object) (c .before .before .pre .1) (c .before .before .pre .2) ∙ simp (sym (c .before .within .ensures) ∙ not-true (c .before .within .result) (c .if1 .taken)))
+    λ u h ps mr mw rs ws cs. sym (P.sleep-refusal (whole ((c .before .before)) u h ps mr mw rs ws cs) (a .kind) (a .rank) (a .object) (c .before .before .pre .1) (c .before .before .pre .2) ∙ simp (sym (c .before .within .ensures) ∙ not-true (c .before .within .result) (c .if1 .taken)))
 
 contains-requires : tie.Need-contains-requires
 contains-requires c κs = let b = between-true 1 (c .before .before .args .counts .jobs) (c .before .before .args .rank) (sym (c .before .within .ensures) ∙ not-false (c .before .within .result) (c .if1 .left)) in (b .0, omega (arith, b .1, c .before .before .pre))
@@ -49,8 +49,8 @@ refused-if-requires-2 c κs = search needs
 returns-2 : tie.Need-returns-2
 returns-2 c =
     let a = c .before .before .before .before .before .before .before .before .args in
-    λ u ps mr mw rs ws cs.
-    let s = whole ((c .before .before .before .before .before .before .before .before)) u ps mr mw rs ws cs in
+    λ u h ps mr mw rs ws cs.
+    let s = whole ((c .before .before .before .before .before .before .before .before)) u h ps mr mw rs ws cs in
     let awake = c .before .before .refused-if .ensures ∙ ap (λ (b : Bool). 27 if eqb (a .kind) 9 && not b else 0) (c .before .before .before .before .before .contains .ensures) in
     c .refused-if2 .ensures
     ∙ ap (λ (n : ℕ). 11 if not (eqb (a .object) 0) else n)

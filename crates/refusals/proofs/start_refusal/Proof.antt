@@ -17,7 +17,7 @@ within-requires c κs = search needs
 
 returns : tie.Need-returns
 unfolding R.eventRefusal
-returns c = λ u z ps mr mw rs ws cs q. sym (simp (sym (c .before .within .ensures) ∙ not-true (c .before .within .result) (c .if1 .taken)))
+returns c = λ u z h ps mr mw rs ws cs q. sym (simp (sym (c .before .within .ensures) ∙ not-true (c .before .within .result) (c .if1 .taken)))
 
 contains-requires : tie.Need-contains-requires
 contains-requires c κs = omega (arith, between-true 1 (c .before .before .args .counts .jobs) (c .before .before .args .rank) (sym (c .before .within .ensures) ∙ not-false (c .before .within .result) (c .if1 .left)), c .before .before .pre)
@@ -31,7 +31,7 @@ refused-if-requires-2 c κs = search needs
 returns-2 : tie.Need-returns-2
 unfolding R.eventRefusal
 returns-2 c =
-    λ u z ps mr mw rs ws cs q. c .refused-if2 .ensures
+    λ u z h ps mr mw rs ws cs q. c .refused-if2 .ensures
     ∙ ap (λ (n : ℕ). 11 if not (eqb (c .before .before .before .before .before .args .object) 0) else n) (c .before .refused-if .ensures ∙ ap (λ (b : Bool). 12 if b else 0) (c .before .before .contains .ensures))
     ∙ sym (simp (sym (c .before .before .before .before .within .ensures) ∙ not-false (c .before .before .before .before .within .result) (c .before .before .before .if1 .left)))
 

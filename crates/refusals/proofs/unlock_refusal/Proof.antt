@@ -21,14 +21,14 @@ within-requires c κs = search needs
 
 returns : tie.Need-returns
 unfolding R.eventRefusal
-returns c = λ u ps mr mw cs. sym (simp (sym (c .before .within .ensures) ∙ not-true (c .before .within .result) (c .if1 .taken)))
+returns c = λ u h ps mr mw cs. sym (simp (sym (c .before .within .ensures) ∙ not-true (c .before .within .result) (c .if1 .taken)))
 
 within-requires-2 : tie.Need-within-requires-2
 within-requires-2 c κs = search needs
 
 returns-2 : tie.Need-returns-2
 unfolding R.eventRefusal
-returns-2 c = λ u ps mr mw cs. sym (simp (sym (c .before .before .before .within .ensures) ∙ not-false (c .before .before .before .within .result) (c .before .before .if1 .left), sym (c .before .within2 .ensures) ∙ not-true (c .before .within2 .result) (c .if2 .taken)))
+returns-2 c = λ u h ps mr mw cs. sym (simp (sym (c .before .before .before .within .ensures) ∙ not-false (c .before .before .before .within .result) (c .before .before .if1 .left), sym (c .before .within2 .ensures) ∙ not-true (c .before .within2 .result) (c .if2 .taken)))
 
 set-of-requires : tie.Need-set-of-requires
 set-of-requires c κs = omega (arith, between-true 1 (c .before .before .before .before .args .counts .objects) (c .before .before .before .before .args .object) (sym (c .before .within2 .ensures) ∙ not-false (c .before .within2 .result) (c .if2 .left)), (c .before .before .before .before .pre))
@@ -63,7 +63,7 @@ returns-3 c =
     let a = c .before .before .before .before .before .before .before .before .before .before .before .before .before .args in
     let read = c .before .before .before .before .before .before .before .contains .ensures ∙ ap (λ (v : ℕ). member v (a .rank)) (c .before .before .before .before .before .before .before .before .set-of .ensures) in
     let written = c .before .before .before .before .before .contains2 .ensures ∙ ap (λ (v : ℕ). member v (a .rank)) (c .before .before .before .before .before .before .set-of2 .ensures) in
-    λ u ps mr mw cs. c .job-event-refusal .ensures
+    λ u h ps mr mw cs. c .job-event-refusal .ensures
     ∙ ap₂ (λ (b : Bool) (n : ℕ). 13 if not b else (n orElse c .before .refused-if2 .result)) (c .before .before .before .contains3 .ensures) (c .before .before .ready-refusal .ensures)
     ∙ ap (λ (n : ℕ). 13 if not (member (a .active) (a .rank)) else n)
     (ready-first (not (eqb (at (now (a .request)) (a .rank)) 0)) (member (a .sleeping) (a .rank)) (c .before .refused-if2 .result))
