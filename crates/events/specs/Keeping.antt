@@ -13,7 +13,8 @@ use Rattle.state.specs.Facts.{RequestFacts, Facts}
 use Rattle.state.specs.WellFormedFacts.{sleeper-free}
 use Rattle.state.specs.Keeping.{activate-keeps, await-keeps, fall-asleep-keeps, awaken-keeps, release-keeps, end-keeps, grant-keeps}
 use Rattle.rule.specs.Granting.{passes, wakes, wakeable}
-use Rattle.rule.specs.Conflicts.{no-conflict}
+use Rattle.state.specs.Holders.{holder-facts}
+use Rattle.rule.specs.Conflicts.{above-others, no-conflict}
 use Rattle.rule.specs.WakeLaws.{FoundAt, Found, wakeable-found, wakes-is}
 use Rattle.refusals.specs.Refusals.{eventRefusal}
 use Rattle.refusals.specs.AcceptedEvent.{AcceptedEvent, event-not-refused, not-waiting, read-facts, write-facts, certify-facts}
@@ -26,7 +27,7 @@ use Rattle.events.specs.Events.{outcome, requestMeeting, request, woken,
 module _ (s : State) (F : Facts s) (r : ℕ) (low : 1 ≤ r) (high : r ≤ s .counts .jobs) (m o : ℕ) (A : RequestFacts s m r o) where
   -- it passes and gets its lock
   passed-keeps : passes s r ≡ true → Facts (grant s m r o)
-  passed-keeps pass = grant-keeps s F r low high m o A (no-conflict s F r low high m o A pass)
+  passed-keeps pass = grant-keeps s F r low high m o A (no-conflict s F r low high m o A pass) (above-others s (holder-facts s F) r pass)
 
   -- it gets its lock, or the job waits
   request-keeps : Facts (request s m r o .state)

@@ -34,6 +34,10 @@ use Rattle.state.specs.Changes.{overTable, readersAfter, readers-after-o
 abbrev pub heldState : Counts → List ℕ → List ℕ → ℕ → List ℕ → List ℕ → List ℕ → State
 heldState counts mayRead mayWrite holder readers writers certified = stateOf counts [] mayRead mayWrite 0 0 0 holder readers writers certified []
 
+-- a state's part
+abbrev pub heldOf : State → State
+heldOf s = heldState (s .counts) (s .«may_read») (s .«may_write») (s .holder) (s .readers) (s .writers) (s .certified)
+
 -- what is known of the locks and their most urgent holder, whatever the other parts of the state are
 pub record HolderFacts (s : State) : Type 0 where
   pub readers : length (s .readers) ≡ mostObjects
@@ -59,6 +63,22 @@ holder-facts s F = record {
   object = held-object s F;
   small = λ m o. omega (arith, F .locks o .jobs m, pow-mono (F .counts .jobs .1));
   few = F .counts .objects .1;
+}
+
+-- it is known of the part, and of any other state with this part
+pub held-facts : (s : State) → HolderFacts s → HolderFacts (heldOf s)
+unfolding weight
+held-facts s H = record {
+  readers = H .readers;
+  writers = H .writers;
+  certified = H .certified;
+  carried = H .carried;
+  order = H .order;
+  right = H .right;
+  rank = H .rank;
+  object = H .object;
+  small = H .small;
+  few = H .few;
 }
 
 -- ---- who holds a lock

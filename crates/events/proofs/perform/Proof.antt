@@ -31,7 +31,7 @@ lock-requires : tie.Need-lock-requires
 lock-requires c κs = search needs
 
 finish-requires : tie.Need-finish-requires
-finish-requires c κs = search needs
+finish-requires c κs = (c .before .before .before .before .before .before .before .before .before .before .before .pre .0, search needs, search needs, c .before .before .before .before .before .before .before .before .before .before .before .pre .1)
 
 sleep-or-awaken-requires : tie.Need-sleep-or-awaken-requires
 sleep-or-awaken-requires c κs = search needs
@@ -39,18 +39,18 @@ sleep-or-awaken-requires c κs = search needs
 returns : tie.Need-returns
 returns c =
     let b = c .before .before .before .args in
-    λ ps. c .start .ensures (now (b .unlocked)) (now (b .sleeping)) ps (now (b .may-read)) (now (b .may-write)) (now (b .readers)) (now (b .writers)) (now (b .certified)) (now (b .request))
+    λ ps. c .start .ensures (now (b .unlocked)) (now (b .sleeping)) (now (b .holder)) ps (now (b .may-read)) (now (b .may-write)) (now (b .readers)) (now (b .writers)) (now (b .certified)) (now (b .request))
     ∙ ap (λ (k : ℕ). E.perform (stateOf (b .counts) ps (now (b .may-read)) (now (b .may-write)) (now (b .active)) (now (b .unlocked)) (now (b .sleeping)) (now (b .holder)) (now (b .readers)) (now (b .writers)) (now (b .certified)) (now (b .request))) k (b .rank) (b .object)) (sym (c .before .before .match .keys1))
 
 returns-2 : tie.Need-returns-2
 returns-2 c =
-    let b = c .before .before .before .before .before .before .before .before .before .args in
-    λ ps. c .unlock .ensures ps ∙ ap (λ (k : ℕ). E.perform (stateOf (b .counts) ps (now (b .may-read)) (now (b .may-write)) (now (b .active)) (now (b .unlocked)) (now (b .sleeping)) (now (b .holder)) (now (b .readers)) (now (b .writers)) (now (b .certified)) (now (b .request))) k (b .rank) (b .object)) (sym (c .before .before .before .before .before .before .before .before .match .keys2))
+    let b = c .before .before .before .before .before .before .before .before .before .before .args in
+    λ ps. c .unlock .ensures ps ∙ ap (λ (k : ℕ). E.perform (stateOf (b .counts) ps (now (b .may-read)) (now (b .may-write)) (now (b .active)) (now (b .unlocked)) (now (b .sleeping)) (now (b .holder)) (now (b .readers)) (now (b .writers)) (now (b .certified)) (now (b .request))) k (b .rank) (b .object)) (sym (c .before .before .before .before .before .before .before .before .before .match .keys2))
 
 returns-3 : tie.Need-returns-3
 returns-3 c =
-    let b = c .before .before .before .before .before .before .before .before .before .args in
-    λ ps. c .certify .ensures ps ∙ ap (λ (k : ℕ). E.perform (stateOf (b .counts) ps (now (b .may-read)) (now (b .may-write)) (now (b .active)) (now (b .unlocked)) (now (b .sleeping)) (now (b .holder)) (now (b .readers)) (now (b .writers)) (now (b .certified)) (now (b .request))) k (b .rank) (b .object)) (sym (c .before .before .before .before .before .before .before .before .match .keys3))
+    let b = c .before .before .before .before .before .before .before .before .before .before .args in
+    λ ps. c .certify .ensures ps ∙ ap (λ (k : ℕ). E.perform (stateOf (b .counts) ps (now (b .may-read)) (now (b .may-write)) (now (b .active)) (now (b .unlocked)) (now (b .sleeping)) (now (b .holder)) (now (b .readers)) (now (b .writers)) (now (b .certified)) (now (b .request))) k (b .rank) (b .object)) (sym (c .before .before .before .before .before .before .before .before .before .match .keys3))
 
 returns-4 : tie.Need-returns-4
 returns-4 c = c .lock .ensures
@@ -61,7 +61,7 @@ returns-5 c = c .finish .ensures
 returns-6 : tie.Need-returns-6
 returns-6 c =
     let b = c .before .before .before .before .before .before .before .before .args in
-    λ ps. c .sleep-or-awaken .ensures (now (b .unlocked)) ps (now (b .may-read)) (now (b .may-write)) (now (b .readers)) (now (b .writers)) (now (b .certified))
+    λ ps. c .sleep-or-awaken .ensures (now (b .unlocked)) (now (b .holder)) ps (now (b .may-read)) (now (b .may-write)) (now (b .readers)) (now (b .writers)) (now (b .certified))
 
 returns-7 : tie.Need-returns-7
 returns-7 c =

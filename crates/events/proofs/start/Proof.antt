@@ -20,23 +20,23 @@ start-refusal-requires c κs = search needs
 returns : tie.Need-returns
 returns c =
     let a = c .before .before .before .args in
-    λ u z ps mr mw rs ws cs q. L.perform-refused (stateOf (a .counts) ps mr mw (now (a .active)) u z h rs ws cs q) 1 (a .rank) (a .object) (c .before .start-refusal .result)
-    (c .before .start-refusal .ensures u z ps mr mw rs ws cs q) (c .if1 .taken)
+    λ u z h ps mr mw rs ws cs q. L.perform-refused (stateOf (a .counts) ps mr mw (now (a .active)) u z h rs ws cs q) 1 (a .rank) (a .object) (c .before .start-refusal .result)
+    (c .before .start-refusal .ensures u z h ps mr mw rs ws cs q) (c .if1 .taken)
 
 with-requires : tie.Need-with-requires
 with-requires c κs =
     let a = c .before .before .before .args in
-    let n = accepted-numbers (stateOf (a .counts) [] [] [] (now (a .active)) 0 0 0 [] [] [] []) 1 (a .rank) (a .object) (sym (c .before .start-refusal .ensures 0 0 [] [] [] [] [] [] []) ∙ c .if1 .left) in
+    let n = accepted-numbers (stateOf (a .counts) [] [] [] (now (a .active)) 0 0 0 [] [] [] []) 1 (a .rank) (a .object) (sym (c .before .start-refusal .ensures 0 0 0 [] [] [] [] [] [] []) ∙ c .if1 .left) in
     (n .0, omega (arith, n .1, c .before .before .before .pre))
 
 returns-2 : tie.Need-returns-2
 unfolding activate
 returns-2 c =
     let a = c .before .before .before .before .args in
-    λ u z ps mr mw rs ws cs q.
+    λ u z h ps mr mw rs ws cs q.
     let s = stateOf (a .counts) ps mr mw (now (a .active)) u z h rs ws cs q in
     ap (λ (v : ℕ). outcome (Done 0) (stateOf (a .counts) ps mr mw v u z h rs ws cs q)) (c .with .ensures)
-    ∙ sym (L.perform-accepted s 1 (a .rank) (a .object) (sym (c .before .before .start-refusal .ensures u z ps mr mw rs ws cs q) ∙ c .before .if1 .left) ∙ L.accepted-start s 1 (a .rank) (a .object) refl)
+    ∙ sym (L.perform-accepted s 1 (a .rank) (a .object) (sym (c .before .before .start-refusal .ensures u z h ps mr mw rs ws cs q) ∙ c .before .if1 .left) ∙ L.accepted-start s 1 (a .rank) (a .object) refl)
 
 pub start-spec : {M : Type 1} → statement M
 start-spec = tie.close (tie.spec start-refusal-requires returns with-requires returns-2)
