@@ -6,7 +6,6 @@ ghost use Prim.Native.Nat.{_*_, _≤_};
 ghost use lib.ListN.{length, drop};
 ghost use lib.Seq.{sets};
 ghost use Rattle.state.specs.State.{stateOf};
-ghost use Rattle.state.specs.WellFormed.{wellFormed};
 ghost use Rattle.state.specs.Facts.{Sized};
 ghost use Rattle.events.specs.Answers.{paper};
 ghost use Rattle.events.specs.Packing.{packed, unpacked};
@@ -27,7 +26,6 @@ use state::ObjectMarks;
 use state::Sets;
 use state::SetsMut;
 use state::State;
-use well_formed::fits;
 use well_formed::fits_sized;
 
 // An event in a state that is known to be well formed: what is refused or done by its kind's rule. The next state is well formed too (manager/specs/Keeping).
@@ -48,7 +46,7 @@ pub fn act_tested<'a>(
     rank: u8,
     object: u8,
 ) -> Answer
-    requires { ⌜ wellFormed (stateOf counts (now «processor_of») (now «may_read») (now «may_write») (now active) (now unlocked) (now sleeping) (now holder) (now readers) (now writers) (now certified) (now request)) ≡ true ⌝ }
+    requires { ⌜ Tested true (stateOf counts (now «processor_of») (now «may_read») (now «may_write») (now active) (now unlocked) (now sleeping) (now holder) (now readers) (now writers) (now certified) (now request)) ⌝ }
     ensures { λ r. ⌜ outcome r (stateOf counts (now («processor_of» .entry)) (now («may_read» .entry)) (now («may_write» .entry)) (now (active .exit)) (now (unlocked .exit)) (now (sleeping .exit)) (now (holder .exit)) (now (readers .exit)) (now (writers .exit)) (now (certified .exit)) (now (request .exit)))
         ≡ step (stateOf counts (now («processor_of» .entry)) (now («may_read» .entry)) (now («may_write» .entry)) (now (active .entry)) (now (unlocked .entry)) (now (sleeping .entry)) (now (holder .entry)) (now (readers .entry)) (now (writers .entry)) (now (certified .entry)) (now (request .entry))) kind rank object ⌝ }
 {
@@ -89,7 +87,7 @@ pub fn act_known<'a>(
     rank: u8,
     object: u8,
 ) -> Answer
-    requires { ⌜ well ≡ wellFormed (stateOf counts (now «processor_of») (now «may_read») (now «may_write») (now active) (now unlocked) (now sleeping) (now holder) (now readers) (now writers) (now certified) (now request)) ⌝ }
+    requires { ⌜ Tested well (stateOf counts (now «processor_of») (now «may_read») (now «may_write») (now active) (now unlocked) (now sleeping) (now holder) (now readers) (now writers) (now certified) (now request)) ⌝ }
     ensures { λ r. ⌜ outcome r (stateOf counts (now («processor_of» .entry)) (now («may_read» .entry)) (now («may_write» .entry)) (now (active .exit)) (now (unlocked .exit)) (now (sleeping .exit)) (now (holder .exit)) (now (readers .exit)) (now (writers .exit)) (now (certified .exit)) (now (request .exit)))
         ≡ step (stateOf counts (now («processor_of» .entry)) (now («may_read» .entry)) (now («may_write» .entry)) (now (active .entry)) (now (unlocked .entry)) (now (sleeping .entry)) (now (holder .entry)) (now (readers .entry)) (now (writers .entry)) (now (certified .entry)) (now (request .entry))) kind rank object ⌝ }
 {
@@ -134,7 +132,7 @@ pub fn act_packed<'a>(
     rank: u8,
     object: u8,
 ) -> u32
-    requires { ⌜ well ≡ wellFormed (stateOf counts (now «processor_of») (now «may_read») (now «may_write») (now active) (now unlocked) (now sleeping) (now holder) (now readers) (now writers) (now certified) (now request)) ⌝ }
+    requires { ⌜ Tested well (stateOf counts (now «processor_of») (now «may_read») (now «may_write») (now active) (now unlocked) (now sleeping) (now holder) (now readers) (now writers) (now certified) (now request)) ⌝ }
     ensures answer { λ r. ⌜ r ≡ packed (step (stateOf counts (now («processor_of» .entry)) (now («may_read» .entry)) (now («may_write» .entry)) (now (active .entry)) (now (unlocked .entry)) (now (sleeping .entry)) (now (holder .entry)) (now (readers .entry)) (now (writers .entry)) (now (certified .entry)) (now (request .entry))) kind rank object .answer) ⌝ }
     ensures apart { λ r. ⌜ unpacked r ≡ paper (step (stateOf counts (now («processor_of» .entry)) (now («may_read» .entry)) (now («may_write» .entry)) (now (active .entry)) (now (unlocked .entry)) (now (sleeping .entry)) (now (holder .entry)) (now (readers .entry)) (now (writers .entry)) (now (certified .entry)) (now (request .entry))) kind rank object .answer) ⌝ }
     ensures next { λ _. ⌜ stateOf counts (now («processor_of» .entry)) (now («may_read» .entry)) (now («may_write» .entry)) (now (active .exit)) (now (unlocked .exit)) (now (sleeping .exit)) (now (holder .exit)) (now (readers .exit)) (now (writers .exit)) (now (certified .exit)) (now (request .exit))
@@ -182,7 +180,7 @@ pub fn act<'a>(
     ensures { λ r. ⌜ outcome r (stateOf counts (now («processor_of» .entry)) (now («may_read» .entry)) (now («may_write» .entry)) (now (active .exit)) (now (unlocked .exit)) (now (sleeping .exit)) (now (holder .exit)) (now (readers .exit)) (now (writers .exit)) (now (certified .exit)) (now (request .exit)))
         ≡ step (stateOf counts (now («processor_of» .entry)) (now («may_read» .entry)) (now («may_write» .entry)) (now (active .entry)) (now (unlocked .entry)) (now (sleeping .entry)) (now (holder .entry)) (now (readers .entry)) (now (writers .entry)) (now (certified .entry)) (now (request .entry))) kind rank object ⌝ }
 {
-    let well = fits(
+    let well = fits_sized(
         counts,
         processor_of,
         may_read,

@@ -10,18 +10,19 @@ use native.Mathlib.Decide.{decLe}
 use native.Mathlib.Omega.{arith}
 use lib.Dec.{eqb, ltb}
 use lib.Pow.{pow-pos}
-use borrow.Author.Tests.{lt-ltb, eq-eqb, ne-eqb}
+use borrow.Author.Tests.{lt-ltb, eqb-true, eq-eqb, ne-eqb}
 use Rattle.basics.specs.Choice.{if_then_else_, and-true, or-right, inside-between}
 use Rattle.basics.specs.Loops.{every, every-true}
 use Rattle.basics.specs.Arrays.{at, at-zeros}
-use Rattle.ranks.specs.Ranks.{member, union}
+use Rattle.ranks.specs.Ranks.{member, union, unions}
 use Rattle.ranks.specs.RankLaws.{member-empty}
-use Rattle.ranks.specs.UnionLaws.{union-lt, empty-at-most-one}
+use Rattle.ranks.specs.UnionLaws.{union-lt, unions-empty, empty-at-most-one}
+use Rattle.ranks.specs.FirstLaws.{most-urgent-none}
 use Rattle.state.specs.declared.State.{State}
-use Rattle.state.specs.State.{mostJobs, read, write, mostObjects, markWords, wordOf, placeOf, zeroState, isObject, declaredAny, holds, isActive}
+use Rattle.state.specs.State.{mostJobs, read, write, mostObjects, markWords, wordOf, placeOf, zeros, zeroState, isObject, declaredAny, holds, allHolders, isActive}
 use Rattle.state.specs.WellFormed.{countsFit, processorFits, processorsFit, declarationFits, declarationsFit, declaredOfJobs, aboveIdle}
 use Rattle.state.specs.WellFormed.{heldByActive, heldByRight, locksFit, lockedOnce, oneLockEach, writtenAlone, writersAlone, waitFits, waitsFit, marksFit, versionFits}
-use Rattle.state.specs.WellFormed.{certifyFits, certifiesFit, waitsAwake, sleepersFit, wellFormed}
+use Rattle.state.specs.WellFormed.{certifyFits, certifiesFit, waitsAwake, sleepersFit, holderFits, inOrder, holdersInOrder, wellFormed}
 use Rattle.table.specs.declared.TableRead.{TableRead}
 use Rattle.table_bytes.specs.Bytes.{processorsIn, jobsIn, objectsIn, entryCount, tableLength}
 use Rattle.table_bytes.specs.Refusals.{tableRefusal}
@@ -114,10 +115,30 @@ module _ (b : List ℕ) (a : AcceptedTable b) where
   unfolding sleepersFit tableState
   sleepers-fit = every-true mostJobs (waitsAwake (tableState b)) (λ r l h. simp (at-zeros mostJobs r))
 
+  -- nobody holds a lock
+  no-holders : allHolders (tableState b .readers) (tableState b .writers) ≡ 0
+  unfolding allHolders tableState
+  no-holders =
+      eqb-true (unions mostObjects (λ o. union (at (zeros mostObjects) o) (at (zeros mostObjects) o))) 0
+      (unions-empty mostObjects (λ o. union (at (zeros mostObjects) o) (at (zeros mostObjects) o))
+      ∙ every-true mostObjects (λ o. eqb (union (at (zeros mostObjects) o) (at (zeros mostObjects) o)) 0) (λ o l h. simp (at-zeros mostObjects o)))
+
+  holder-fits : holderFits (tableState b) ≡ true
+  unfolding holderFits tableState
+  holder-fits = simp (no-holders, most-urgent-none)
+
+  holders-in-order : holdersInOrder (tableState b) ≡ true
+  unfolding holdersInOrder
+  holders-in-order =
+      every-true (tableState b .counts .jobs) _ (λ r l h. every-true (tableState b .counts .jobs) (λ q. inOrder (tableState b) q r) (λ q a b. none q r))
+    where
+      none : (q r : ℕ) → inOrder (tableState b) q r ≡ true
+      none q r = simp (no-holders, member-empty q)
+
   pub table-well-formed : wellFormed (tableState b) ≡ true
   unfolding wellFormed
   table-well-formed =
-      simp (counts-fit, processors-fit, declarations-fit, above-idle, locks-fit, one-lock-each, writers-alone, waits-fit, marks-fit, version-fits, certifies-fit, sleepers-fit)
+      simp (counts-fit, processors-fit, declarations-fit, above-idle, locks-fit, one-lock-each, writers-alone, waits-fit, marks-fit, version-fits, certifies-fit, sleepers-fit, holder-fits, holders-in-order)
 
   pub table-fresh : Fresh (tableState b)
   unfolding tableState

@@ -30,26 +30,26 @@ fits-sized-requires : tie.Need-fits-sized-requires
 fits-sized-requires c κs = search needs
 
 slice-aggregate-answer-each : tie.Need-slice-aggregate-answer-each
-slice-aggregate-answer-each c = sym (length-take-le (3 * c .before .before .before .before .before .before .before .before .before .before .before .before .before .before .before .before .smaller .result) (now (c .before .before .before .before .before .before .before .before .before .before .before .before .before .before .before .before .before .before .before .args .events)) (omega (arith, c .before .before .before .before .before .before .before .before .before .before .before .before .before .before .before .before .smaller .ensures)))
+slice-aggregate-answer-each c = sym (length-take-le (3 * c .before .before .before .before .before .before .before .before .before .before .before .before .before .before .before .before .before .before .smaller .result) (now (c .before .before .before .before .before .before .before .before .before .before .before .before .before .before .before .before .before .before .before .before .before .args .events)) (omega (arith, c .before .before .before .before .before .before .before .before .before .before .before .before .before .before .before .before .before .before .smaller .ensures)))
 
 answer-each-requires : tie.Need-answer-each-requires
 answer-each-requires c κs =
-    let size : length (take (3 * c .before .before .before .before .before .before .before .before .before .before .before .before .before .before .before .before .before .smaller .result) (now (c .before .before .before .before .before .before .before .before .before .before .before .before .before .before .before .before .before .before .before .before .args .events))) ≡ 3 * c .before .before .before .before .before .before .before .before .before .before .before .before .before .before .before .before .before .smaller .result =
-    length-take-le (3 * c .before .before .before .before .before .before .before .before .before .before .before .before .before .before .before .before .before .smaller .result) (now (c .before .before .before .before .before .before .before .before .before .before .before .before .before .before .before .before .before .before .before .before .args .events)) (omega (arith, c .before .before .before .before .before .before .before .before .before .before .before .before .before .before .before .before .before .smaller .ensures)) in
-    (record { sized = c .before .before .before .before .before .before .before .before .before .fits-sized .ensures .1; found = c .before .before .before .before .before .before .before .before .before .fits-sized .ensures .0 }, omega (arith, c .before .before .before .before .before .before .before .before .before .before .before .before .before .before .before .before .before .smaller .ensures))
+    let size : length (take (3 * c .before .before .before .before .before .before .before .before .before .before .before .before .before .before .before .before .before .before .before .smaller .result) (now (c .before .before .before .before .before .before .before .before .before .before .before .before .before .before .before .before .before .before .before .before .before .before .args .events))) ≡ 3 * c .before .before .before .before .before .before .before .before .before .before .before .before .before .before .before .before .before .before .before .smaller .result =
+    length-take-le (3 * c .before .before .before .before .before .before .before .before .before .before .before .before .before .before .before .before .before .before .before .smaller .result) (now (c .before .before .before .before .before .before .before .before .before .before .before .before .before .before .before .before .before .before .before .before .before .before .args .events)) (omega (arith, c .before .before .before .before .before .before .before .before .before .before .before .before .before .before .before .before .before .before .before .smaller .ensures)) in
+    (record { sized = c .before .before .before .before .before .before .before .before .before .before .fits-sized .ensures .1; found = c .before .before .before .before .before .before .before .before .before .before .fits-sized .ensures .0 }, omega (arith, c .before .before .before .before .before .before .before .before .before .before .before .before .before .before .before .before .before .before .before .smaller .ensures))
 
 same-length : tie.Need-same-length
 same-length c = search needs
 
 returns : tie.Need-returns
 returns c =
-    let a = c .before .before .before .before .before .before .before .before .before .before .before .before .before .before .before .before .before .before .before .before .before .before .before .args in
-    let n = c .before .before .before .before .before .before .before .before .before .before .before .before .before .before .before .before .before .before .before .before .smaller .result in
-    let count = c .before .before .before .before .before .before .before .before .before .before .before .before .before .before .before .before .before .before .before .before .smaller .ensures in (
+    let a = c .before .before .before .before .before .before .before .before .before .before .before .before .before .before .before .before .before .before .before .before .before .before .before .before .before .args in
+    let n = c .before .before .before .before .before .before .before .before .before .before .before .before .before .before .before .before .before .before .before .before .before .before .smaller .result in
+    let count = c .before .before .before .before .before .before .before .before .before .before .before .before .before .before .before .before .before .before .before .before .before .before .smaller .ensures in (
       count,
       (
-        c .before .before .answer-each .ensures .0 ∙ front-stored (whole ((c .before .before .before .before .before .before .before .before .before .before .before .before .before .before .before .before .before .before .before .before .before .before .before))) (now (a .events)) (now (a .answers)) n count,
-        c .before .before .answer-each .ensures .1 ∙ ap (λ (k : ℕ). stateAfter (whole ((c .before .before .before .before .before .before .before .before .before .before .before .before .before .before .before .before .before .before .before .before .before .before .before))) (take (3 * k) (now (a .events)))) count,
+        c .before .before .answer-each .ensures .0 ∙ front-stored (whole ((c .before .before .before .before .before .before .before .before .before .before .before .before .before .before .before .before .before .before .before .before .before .before .before .before .before))) (now (a .events)) (now (a .answers)) n count,
+        c .before .before .answer-each .ensures .1 ∙ ap (λ (k : ℕ). stateAfter (whole ((c .before .before .before .before .before .before .before .before .before .before .before .before .before .before .before .before .before .before .before .before .before .before .before .before .before))) (take (3 * k) (now (a .events)))) count,
       ),
     )
 

@@ -18,10 +18,10 @@ whole c = let a = c .args in
 returns : tie.Need-returns
 returns c =
     let a = c .before .args in
-    sym (step-8 (whole ((c .before))) (a .kind) (a .rank) (a .object) (sym (c .before .pre) ∙ not-true (a .well) (c .if1 .taken)))
+    sym (step-8 (whole ((c .before))) (a .kind) (a .rank) (a .object) (sym (c .before .pre .found) ∙ not-true (a .well) (c .if1 .taken)))
 
 act-tested-requires : tie.Need-act-tested-requires
-act-tested-requires c κs = sym (c .before .before .before .before .before .before .before .before .pre) ∙ not-false (c .before .before .before .before .before .before .before .before .args .well) (c .before .before .before .before .before .before .before .if1 .left)
+act-tested-requires c κs = record { sized = c .before .before .before .before .before .before .before .before .before .pre .sized; found = sym (not-false (c .before .before .before .before .before .before .before .before .before .args .well) (c .before .before .before .before .before .before .before .before .if1 .left)) ∙ c .before .before .before .before .before .before .before .before .before .pre .found }
 
 returns-2 : tie.Need-returns-2
 returns-2 c = c .act-tested .ensures

@@ -11,14 +11,14 @@ use Rattle.manager.proofs.answer_each.Statement.{statement}
 use Rattle.manager.proofs.answer_each.Tie as tie
 
 abbrev Inv-loop : tie.InvT-loop
-Inv-loop well counts processor-of may-read may-write active₀ unlocked₀ sleeping₀ readers₀ writers₀ certified₀ request₀ events answers₀ at₀ i₀ active unlocked sleeping readers writers certified request answers at i =
+Inv-loop well counts processor-of may-read may-write active₀ unlocked₀ sleeping₀ holder₀ readers₀ writers₀ certified₀ request₀ events answers₀ at₀ i₀ active unlocked sleeping holder readers writers certified request answers at i =
     Answered events well
     (stateOf counts processor-of may-read may-write active₀ unlocked₀ sleeping₀ holder₀ readers₀ writers₀ certified₀ request₀)
     (stateOf counts processor-of may-read may-write active unlocked sleeping holder readers writers certified request)
     answers₀ answers at i
 
 abbrev μ-loop : tie.MeasureT-loop
-μ-loop well counts processor-of may-read may-write active₀ unlocked₀ sleeping₀ readers₀ writers₀ certified₀ request₀ events answers₀ at₀ i₀ active unlocked sleeping readers writers certified request answers at i =
+μ-loop well counts processor-of may-read may-write active₀ unlocked₀ sleeping₀ holder₀ readers₀ writers₀ certified₀ request₀ events answers₀ at₀ i₀ active unlocked sleeping holder readers writers certified request answers at i =
     length events - at
 
 loop-holds : tie.Need-loop-holds Inv-loop μ-loop
@@ -43,26 +43,26 @@ shared-slice-read-act-packed-3 : tie.Need-shared-slice-read-act-packed-3 Inv-loo
 shared-slice-read-act-packed-3 c = search needs
 
 act-packed-requires : tie.Need-act-packed-requires Inv-loop μ-loop
-act-packed-requires c κs = c .before .before .before .before .before .before .before .before .before .before .before .loop .inv .tested .found
+act-packed-requires c κs = c .before .before .before .before .before .before .before .before .before .before .before .before .loop .inv .tested
 
 mul-answers : tie.Need-mul-answers Inv-loop μ-loop
-mul-answers c = search (needs, c .before .before .before .before .before .before .before .before .before .before .before .before .before .before .before .good .1 .1 .1 .1 .1 .1 .1 .1 .1)
+mul-answers c = search (needs, c .before .before .before .before .before .before .before .before .before .before .before .before .before .before .before .before .good .1 .1 .1 .1 .1 .1 .1 .1 .1)
 
 slice-write-answers : tie.Need-slice-write-answers Inv-loop μ-loop
 slice-write-answers c = search needs
 
 add-at : tie.Need-add-at Inv-loop μ-loop
-add-at c = search (needs, c .before .before .before .before .before .before .before .before .before .before .before .before .before .before .before .good .1 .1 .1 .1 .1 .1 .1 .1 .1)
+add-at c = search (needs, c .before .before .before .before .before .before .before .before .before .before .before .before .before .before .before .before .good .1 .1 .1 .1 .1 .1 .1 .1 .1)
 
 add-i : tie.Need-add-i Inv-loop μ-loop
-add-i c = search (needs, c .before .before .before .before .before .before .before .before .before .before .before .before .before .before .before .good .1 .1 .1 .1 .1 .1 .1 .1 .1)
+add-i c = search (needs, c .before .before .before .before .before .before .before .before .before .before .before .before .before .before .before .before .good .1 .1 .1 .1 .1 .1 .1 .1 .1)
 
 loop-less : tie.Need-loop-less Inv-loop μ-loop
 loop-less c = search needs
 
 loop-again : tie.Need-loop-again Inv-loop μ-loop
 loop-again c =
-    answered-more _ _ _ _ _ _ _ _ (c .before .before .before .before .before .before .before .before .before .before .before .before .loop .inv) (omega arith) _ _ (c .act-packed .ensures .1 .1) (c .act-packed .ensures .0)
+    answered-more _ _ _ _ _ _ _ _ (c .before .before .before .before .before .before .before .before .before .before .before .before .before .loop .inv) (omega arith) _ _ (c .act-packed .ensures .1 .1) (c .act-packed .ensures .0)
 
 same-length : tie.Need-same-length Inv-loop μ-loop
 same-length c = search needs

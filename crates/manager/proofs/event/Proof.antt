@@ -20,7 +20,7 @@ act-requires : tie.Need-act-requires
 act-requires c κs = search needs
 
 returns : tie.Need-returns
-returns c = (c .act .ensures, sized ((c .before .before .before .before .before .before .before .before .before .before .before .before .before .before .before .before .before)))
+returns c = (c .act .ensures, sized ((c .before .before .before .before .before .before .before .before .before .before .before .before .before .before .before .before .before .before)))
 
 pub event-spec : {M : Type 1} → statement M
 event-spec = tie.close (tie.spec act-requires returns)
