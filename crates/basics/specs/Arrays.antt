@@ -94,6 +94,14 @@ filled-more xs n v f h e filled k = elim (ℕ-discrete k (suc n)) [ yes q ↦ he
     other : k ≢ suc n → at (set xs n v) k ≡ (if between 1 (n + 1) k then f k else 0)
     other d = at-put-other xs (suc n) v k (λ z. d (sym z)) ∙ filled k ∙ ap (λ (b : Bool). if b then f k else 0) (same d)
 
+-- two functions that are the same up to n fill it alike
+pub filled-same : (xs : List ℕ) (n : ℕ) (f g : ℕ → ℕ) → ((k : ℕ) → 1 ≤ k → k ≤ n → f k ≡ g k) → FilledTo xs n f → FilledTo xs n g
+filled-same xs n f g same filled k = filled k ∙ go (between 1 n k) refl
+  where
+    go : (b : Bool) → between 1 n k ≡ b → (if b then f k else 0) ≡ (if b then g k else 0)
+    go true e = let l = between-true 1 n k e in same k (l .0) (l .1)
+    go false e = refl
+
 -- ---- an array gone through f
 
 pub mapped-more : (f : ℕ → ℕ) (n : ℕ) (xs : List ℕ) → set (mapped f n xs) n (f (getD (mapped f n xs) n 0)) ≡ mapped f (n + 1) xs

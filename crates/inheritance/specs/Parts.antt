@@ -16,7 +16,7 @@ use Rattle.inheritance.specs.Running.{inheritedRank, runningRank}
 -- a state with these counts, declarations, locks and requests, with the jobs' processors, these active jobs and these sleepers
 abbrev pub runState : Counts → List ℕ → ℕ → ℕ → List ℕ → List ℕ → List ℕ → List ℕ → List ℕ → List ℕ → State
 runState counts processorOf active sleeping mayRead mayWrite readers writers certified request =
-    stateOf counts processorOf mayRead mayWrite active 0 sleeping holder readers writers certified request
+    stateOf counts processorOf mayRead mayWrite active 0 sleeping 0 readers writers certified request
 
 -- a state's parts
 abbrev pub runOf : State → State

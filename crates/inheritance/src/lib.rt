@@ -1,12 +1,15 @@
 // Inherited ranks, and the job that a processor runs. The lock that each rank names is worked out once and answers for all jobs and processors.
 ghost use mathlib.Core.Path.{_≡_};
 ghost use Prim.Native.Nat.{_≤_, min};
-ghost use Rattle.state.specs.State.{mostJobs, mostObjects};
+ghost use Rattle.state.specs.State.{mostJobs};
+ghost use Rattle.state.specs.Holders.{HolderFacts, heldState};
 ghost use Rattle.weights.specs.Keys as K;
 ghost use Rattle.inheritance.specs.Running as R;
 ghost use Rattle.inheritance.specs.Inheriting as I;
 ghost use Rattle.rule.specs.Parts.{waitsState};
 ghost use Rattle.inheritance.specs.Parts.{runState};
+use one_holder::holder_key;
+use one_holder::key_against;
 use ranks::RankSet;
 use rule::named_key;
 use state::Counts;
@@ -20,36 +23,37 @@ use weights::lower;
 // A lock for each rank, by its key without the weight; 0 for no lock.
 pub type JobLocks = [u16; 64];
 
-// For each rank, the lock that it names; no lock where it does not wait or names nobody.
+// For each rank, the lock that it names; no lock where it does not wait or names nobody. The locks of the most urgent holder are read once.
 pub fn named_locks<'a>(
     counts: Counts,
     may_read: Sets<'a>,
     may_write: Sets<'a>,
+    holder: u8,
     readers: Sets<'a>,
     writers: Sets<'a>,
     certified: &'a ObjectMarks,
     request: &'a JobRequests,
 ) -> JobLocks
-    requires { ⌜ (counts .jobs ≤ mostJobs) × (counts .objects ≤ mostObjects) ⌝ }
+    requires { ⌜ (counts .jobs ≤ mostJobs) × HolderFacts (heldState counts (now «may_read») (now «may_write») holder (now readers) (now writers) (now certified)) ⌝ }
     ensures { λ r. ⌜ I.NamedBy r (waitsState counts (now («may_read» .entry)) (now («may_write» .entry)) (now (readers .entry)) (now (writers .entry)) (now (certified .entry)) (now (request .entry))) ⌝ }
 {
+    let key = holder_key(
+        counts,
+        may_read,
+        may_write,
+        readers,
+        writers,
+        certified,
+        holder,
+    );
     let jobs = counts.jobs;
     let mut named: JobLocks = [0; 64];
     let mut rank: u8 = 0;
     while rank < jobs {
         let i = rank as usize;
         rank += 1;
-        let key = named_key(
-            counts,
-            may_read,
-            may_write,
-            readers,
-            writers,
-            certified,
-            request[i],
-            rank,
-        );
-        named[i] = (key % 65536) as u16;
+        let lock = named_key(request[i], key_against(holder, key, rank), rank);
+        named[i] = (lock % 65536) as u16;
     }
     named
 }
@@ -102,19 +106,21 @@ pub fn inherited_rank<'a>(
     counts: Counts,
     may_read: Sets<'a>,
     may_write: Sets<'a>,
+    holder: u8,
     readers: Sets<'a>,
     writers: Sets<'a>,
     certified: &'a ObjectMarks,
     request: &'a JobRequests,
     rank: u8,
 ) -> u8
-    requires { ⌜ (counts .jobs ≤ mostJobs) × (counts .objects ≤ mostObjects) × (1 ≤ rank) ⌝ }
+    requires { ⌜ (counts .jobs ≤ mostJobs) × (1 ≤ rank) × HolderFacts (heldState counts (now «may_read») (now «may_write») holder (now readers) (now writers) (now certified)) ⌝ }
     ensures { λ r. ⌜ r ≡ R.inheritedRank (waitsState counts (now («may_read» .entry)) (now («may_write» .entry)) (now (readers .entry)) (now (writers .entry)) (now (certified .entry)) (now (request .entry))) rank ⌝ }
 {
     let named = named_locks(
         counts,
         may_read,
         may_write,
+        holder,
         readers,
         writers,
         certified,
@@ -172,22 +178,23 @@ pub fn running_rank<'a>(
     processor_of: &'a JobProcessors,
     active: RankSet,
     sleeping: RankSet,
-    holder: u8,
     may_read: Sets<'a>,
     may_write: Sets<'a>,
+    holder: u8,
     readers: Sets<'a>,
     writers: Sets<'a>,
     certified: &'a ObjectMarks,
     request: &'a JobRequests,
     processor: u8,
 ) -> u8
-    requires { ⌜ (counts .jobs ≤ mostJobs) × (counts .objects ≤ mostObjects) ⌝ }
+    requires { ⌜ (counts .jobs ≤ mostJobs) × HolderFacts (heldState counts (now «may_read») (now «may_write») holder (now readers) (now writers) (now certified)) ⌝ }
     ensures { λ r. ⌜ r ≡ R.runningRank (runState counts (now («processor_of» .entry)) active sleeping (now («may_read» .entry)) (now («may_write» .entry)) (now (readers .entry)) (now (writers .entry)) (now (certified .entry)) (now (request .entry))) processor ⌝ }
 {
     let named = named_locks(
         counts,
         may_read,
         may_write,
+        holder,
         readers,
         writers,
         certified,

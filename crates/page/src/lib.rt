@@ -136,6 +136,7 @@ fn lay_page<'a>(
         counts,
         may_read,
         may_write,
+        holder,
         readers,
         writers,
         certified,

@@ -2,5 +2,6 @@
 pub mod Granting
 pub mod GrantingTheorems
 pub mod Conflicts
+pub mod Decided
 pub mod WakeLaws
 pub mod Parts

@@ -43,8 +43,7 @@ wake-requires c κs =
     let a = c .before .before .before .before .before .before .before .before .before .before .before .before .before .before .before .before .before .before .before .before .before .before .args in
     let s = stateOf (a .counts) [] (now (a .may-read)) (now (a .may-write)) 0 0 0 (now (a .holder)) (now (a .readers)) (now (a .writers)) (now (a .certified)) [] in
     let H = c .before .before .before .before .before .before .before .before .before .before .before .before .before .before .before .before .before .before .before .before .before .before .pre .4 in
-    let carried = c .before .before .before .before .before .before .before .most-urgent .ensures ∙ L.last-holder s H (a .rank) (c .before .before .before .before .before .before .before .before .union .result) (c .before .before .before .before .before .before .before .before .before .before .before .release-sets .result) (c .before .before .before .before .before .before .before .before .before .release-sets2 .result) (c .before .before .before .before .before .before .before .before .union .ensures) (c .before .before .before .before .before .before .before .before .before .before .before .release-sets .ensures .1) (c .before .before .before .before .before .before .before .before .before .release-sets2 .ensures .1) in
-    (
+    let carried = c .before .before .before .before .before .before .before .most-urgent .ensures ∙ L.last-holder s H (a .rank) (c .before .before .before .before .before .before .before .before .union .result) (c .before .before .before .before .before .before .before .before .before .before .before .release-sets .result) (c .before .before .before .before .before .before .before .before .before .release-sets2 .result) (c .before .before .before .before .before .before .before .before .union .ensures) (c .before .before .before .before .before .before .before .before .before .before .before .release-sets .ensures .1) (c .before .before .before .before .before .before .before .before .before .release-sets2 .ensures .1) in (
       c .before .before .before .before .before .before .before .before .before .before .before .before .before .before .before .before .before .before .before .before .before .before .pre .0,
       subst RequestsFit (sym (c .before .before .before .before .before .store-request .ensures)) (L.dropped-fits (now (a .request)) (a .rank) (c .before .before .before .before .before .before .before .before .before .before .before .before .before .before .before .before .before .before .before .before .before .before .pre .1) (c .before .before .before .before .before .before .before .before .before .before .before .before .before .before .before .before .before .before .before .before .before .before .pre .3)),
       L.same-parts (a .counts) (now (a .may-read)) (now (a .may-write)) carried (c .before .before .before .before .before .before .before .before .before .before .before .release-sets .ensures .0) (c .before .before .before .before .before .before .before .before .before .release-sets2 .ensures .0) (c .before .before .before .before .before .before .before .before .before .before .before .before .before .drop-marks .ensures) (L.ended s H (a .rank)),

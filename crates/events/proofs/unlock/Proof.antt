@@ -61,8 +61,7 @@ wake-requires c κs =
     let carried : c .before .before .before .before .before .if2 .holder ≡ mostUrgentHolder (releaseReaders (a .rank) (a .object) (now (a .readers))) (now (a .writers)) = elim (c .before .before .before .before .before .if2 .came) [
       | inl t ↦ L.next-holder s H (a .rank) (a .object) (n .2) (n .3) (c .before .before .before .before .before .if2 .holder) _ reads (inl (t .0 .taken, t .4 ∙ t .3 .ensures))
       | inr t ↦ L.next-holder s H (a .rank) (a .object) (n .2) (n .3) (c .before .before .before .before .before .if2 .holder) _ reads (inr (t .0 .left, t .1))
-    ] in
-    (
+    ] in (
       c .before .before .before .before .before .before .before .before .before .before .before .before .before .before .before .pre .0 .jobs-fit,
       c .before .before .before .before .before .before .before .before .before .before .before .before .before .before .before .pre .0 .requests-fit,
       L.same-parts (a .counts) (now (a .may-read)) (now (a .may-write)) carried reads refl refl (L.released s H (a .rank) (a .object) (n .2) (n .3)),

@@ -10,7 +10,7 @@ use Rattle.inheritance.proofs.inherited_rank.Statement.{statement}
 use Rattle.inheritance.proofs.inherited_rank.Tie as tie
 
 named-locks-requires : tie.Need-named-locks-requires
-named-locks-requires c κs = search needs
+named-locks-requires c κs = (c .pre .0, c .pre .2)
 
 inherited-by-requires : tie.Need-inherited-by-requires
 inherited-by-requires c κs = search needs

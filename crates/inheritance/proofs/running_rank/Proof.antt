@@ -13,7 +13,7 @@ use Rattle.inheritance.proofs.running_rank.Statement.{statement}
 use Rattle.inheritance.proofs.running_rank.Tie as tie
 
 named-locks-requires : tie.Need-named-locks-requires
-named-locks-requires c κs = search needs
+named-locks-requires c κs = c .pre
 
 minus-requires : tie.Need-minus-requires
 minus-requires c κs = search needs
