@@ -8,7 +8,7 @@ use Rattle.state.specs.declared.State.{State}
 use Rattle.state.specs.WellFormed.{wellFormed}
 use Rattle.state.specs.Facts.{Sized, Facts}
 use Rattle.state.specs.WellFormedFacts.{facts, facts-well-formed}
-use Rattle.state.specs.Holders.{HolderFacts, heldOf, holder-facts, held-facts}
+use Rattle.state.specs.Holders.{HolderFacts, heldOf, well-held}
 use Rattle.events.specs.declared.Outcome.{Outcome}
 use Rattle.events.specs.Keeping.{perform-keeps}
 use Rattle.manager.specs.Step.{step, step-8, step-performs}
@@ -28,7 +28,7 @@ pub record Tested (well : Bool) (s : State) : Type 0 where
 
 -- what is then known of the locks and their most urgent holder
 pub tested-holders : (s : State) → Tested true s → HolderFacts (heldOf s)
-tested-holders s T = held-facts s (holder-facts s (facts s (T .sized) (sym (T .found))))
+tested-holders s T = well-held s (T .sized) (sym (T .found))
 
 pub tested-after : (well : Bool) (s : State) → Tested well s → (k r o : ℕ) → Tested well (step s k r o .state)
 tested-after true s T k r o =

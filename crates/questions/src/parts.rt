@@ -5,6 +5,7 @@ ghost use Rattle.questions.specs.Questions as Q;
 use crate::CeilingsAnswer;
 use crate::NamedAnswer;
 use crate::RankAnswer;
+use one_holder::deciding_key;
 use ranks::RankSet;
 use refusals::job_refusal;
 use refusals::object_refusal;
@@ -15,7 +16,7 @@ use state::JobProcessors;
 use state::JobRequests;
 use state::ObjectMarks;
 use state::Sets;
-use well_formed::fits;
+use well_formed::fits_sized;
 
 // A job's inherited rank: the most urgent of its own and those of the waiting jobs that name it.
 pub fn ask_inherited_rank<'a>(
@@ -36,7 +37,7 @@ pub fn ask_inherited_rank<'a>(
     ensures { λ r. ⌜ r ≡ Q.askInheritedRank (stateOf counts (now («processor_of» .entry)) (now («may_read» .entry)) (now («may_write» .entry))
         active unlocked sleeping holder (now (readers .entry)) (now (writers .entry)) (now (certified .entry)) (now (request .entry))) rank ⌝ }
 {
-    let well = fits(
+    let well = fits_sized(
         counts,
         processor_of,
         may_read,
@@ -58,6 +59,7 @@ pub fn ask_inherited_rank<'a>(
         counts,
         may_read,
         may_write,
+        holder,
         readers,
         writers,
         certified,
@@ -85,7 +87,7 @@ pub fn ask_named_lock<'a>(
     ensures { λ r. ⌜ r ≡ Q.askNamedLock (stateOf counts (now («processor_of» .entry)) (now («may_read» .entry)) (now («may_write» .entry))
         active unlocked sleeping holder (now (readers .entry)) (now (writers .entry)) (now (certified .entry)) (now (request .entry))) rank ⌝ }
 {
-    let well = fits(
+    let well = fits_sized(
         counts,
         processor_of,
         may_read,
@@ -103,19 +105,23 @@ pub fn ask_named_lock<'a>(
     if number != 0 {
         return NamedAnswer::Refused(number);
     }
-    let key = rule::named_key(
+    let key = deciding_key(
         counts,
         may_read,
         may_write,
+        holder,
         readers,
         writers,
         certified,
-        request[(rank - 1) as usize],
         rank,
     );
-    let holder = weights::key_holder(key);
-    let object = weights::key_object(key);
-    NamedAnswer::Lock { holder, object }
+    let named = rule::named_key(request[(rank - 1) as usize], key, rank);
+    let other = weights::key_holder(named);
+    let object = weights::key_object(named);
+    NamedAnswer::Lock {
+        holder: other,
+        object,
+    }
 }
 
 // An object's write ceiling and absolute ceiling.
@@ -137,7 +143,7 @@ pub fn ask_ceilings<'a>(
     ensures { λ r. ⌜ r ≡ Q.askCeilings (stateOf counts (now («processor_of» .entry)) (now («may_read» .entry)) (now («may_write» .entry))
         active unlocked sleeping holder (now (readers .entry)) (now (writers .entry)) (now (certified .entry)) (now (request .entry))) object ⌝ }
 {
-    let well = fits(
+    let well = fits_sized(
         counts,
         processor_of,
         may_read,
@@ -182,7 +188,7 @@ pub fn ask_running<'a>(
     ensures { λ r. ⌜ r ≡ Q.askRunning (stateOf counts (now («processor_of» .entry)) (now («may_read» .entry)) (now («may_write» .entry))
         active unlocked sleeping holder (now (readers .entry)) (now (writers .entry)) (now (certified .entry)) (now (request .entry))) processor ⌝ }
 {
-    let well = fits(
+    let well = fits_sized(
         counts,
         processor_of,
         may_read,
@@ -205,9 +211,9 @@ pub fn ask_running<'a>(
         processor_of,
         active,
         sleeping,
-        holder,
         may_read,
         may_write,
+        holder,
         readers,
         writers,
         certified,

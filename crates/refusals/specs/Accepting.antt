@@ -62,13 +62,14 @@ accepted-numbers s k r o e =
 -- ---- what a question that is not refused may count on
 
 pub record Asking (s : State) : Type 0 where
+  pub well : wellFormed s ≡ true
   pub jobs-fit : s .counts .jobs ≤ mostJobs
   pub objects-fit : s .counts .objects ≤ mostObjects
 
 pub asking : (s : State) → wellFormed s ≡ true → Asking s
 asking s w =
     let n = counts-within (s .counts) (clauses s w .counts) in
-    record { jobs-fit = n .jobs .1; objects-fit = n .objects .1 }
+    record { well = w; jobs-fit = n .jobs .1; objects-fit = n .objects .1 }
 
 pub job-asking : (s : State) (r : ℕ) → jobRefusal s r ≡ 0 → Asking s × ((1 ≤ r) × (r ≤ mostJobs))
 unfolding jobRefusal

@@ -24,10 +24,11 @@ use Rattle.state.specs.State.{mostJobs, mostObjects, markWords, read, wr
 use Rattle.state.specs.State.{stateOf, grantReaders, grantWriters, releaseReaders, releaseSets, dropMarks, release, endRun}
 use Rattle.state.specs.Weights.{weight, writeWeight, writeCeiling, absoluteCeiling}
 use Rattle.state.specs.WeightLaws.{read-own, write-writer}
-use Rattle.state.specs.Facts.{In, InOrder, Facts}
+use Rattle.state.specs.Facts.{Sized, In, InOrder, Facts}
+use Rattle.state.specs.WellFormed.{wellFormed}
 use Rattle.state.specs.Modes.{either-mode}
 use Rattle.state.specs.Marks.{drop-kept, drop-gone, length-drop}
-use Rattle.state.specs.WellFormedFacts.{held-rank, held-object}
+use Rattle.state.specs.WellFormedFacts.{facts, held-rank, held-object}
 use Rattle.state.specs.Changes.{overTable, readersAfter, readers-after-other, without-in, without-none}
 
 -- a state with these counts, declarations, most urgent holder and locks, all else 0 or empty
@@ -80,6 +81,9 @@ held-facts s H = record {
   small = H .small;
   few = H .few;
 }
+
+pub well-held : (s : State) → Sized s → wellFormed s ≡ true → HolderFacts (heldOf s)
+well-held s z w = held-facts s (holder-facts s (facts s z w))
 
 -- ---- who holds a lock
 

@@ -26,13 +26,13 @@ whole c = let a = c .args in
 -- the number that was found is that of the state
 number : (c : tie.After-object-refusal) → c .object-refusal .result ≡ objectRefusal (whole (c .before .before)) (c .before .before .args .object)
 unfolding objectRefusal
-number c = let a = c .before .before .args in c .object-refusal .ensures ∙ ap (λ (b : Bool). objectRefusalOf b (a .counts .objects) (a .object)) (c .before .fits2 .ensures)
+number c = let a = c .before .before .args in c .object-refusal .ensures ∙ ap (λ (b : Bool). objectRefusalOf b (a .counts .objects) (a .object)) (c .before .fits-sized .ensures .0)
 
 not-refused : (c : tie.Else1) → objectRefusal (whole (c .before .before .before)) (c .before .before .before .args .object) ≡ 0
 not-refused c = sym (number (c .before)) ∙ c .if1 .left
 
-fits-requires : tie.Need-fits-requires
-fits-requires c κs = search needs
+fits-sized-requires : tie.Need-fits-sized-requires
+fits-sized-requires c κs = search needs
 
 object-refusal-requires : tie.Need-object-refusal-requires
 object-refusal-requires c κs = search needs
@@ -71,7 +71,7 @@ pub ask-ceilings-spec : {M : Type 1} → statement M
 ask-ceilings-spec =
     tie.close
     (tie.spec
-    fits-requires
+    fits-sized-requires
     object-refusal-requires
     returns
     set-of-requires

@@ -7,6 +7,7 @@ use denote.Ref.{now}
 use mathlib.Core.Path.{_≡_, sym, ap, _∙_}
 use mathlib.Core.Bool.{Bool}
 use borrow.Author.Tests.{eq-eqb, ne-eqb}
+use Rattle.state.specs.Holders.{well-held}
 use Rattle.state.specs.declared.State.{State}
 use Rattle.state.specs.State.{stateOf}
 use Rattle.questions.specs.declared.RankAnswer.{RankAnswer}
@@ -25,16 +26,16 @@ whole c = let a = c .args in
 -- the number that was found is that of the state
 number : (c : tie.After-job-refusal) → c .job-refusal .result ≡ jobRefusal (whole (c .before .before)) (c .before .before .args .rank)
 unfolding jobRefusal
-number c = let a = c .before .before .args in c .job-refusal .ensures ∙ ap (λ (b : Bool). jobRefusalOf b (a .counts .jobs) (a .active) (a .rank)) (c .before .fits2 .ensures)
+number c = let a = c .before .before .args in c .job-refusal .ensures ∙ ap (λ (b : Bool). jobRefusalOf b (a .counts .jobs) (a .active) (a .rank)) (c .before .fits-sized .ensures .0)
 
 not-refused : (c : tie.Else1) → jobRefusal (whole (c .before .before .before)) (c .before .before .before .args .rank) ≡ 0
 not-refused c = sym (number (c .before)) ∙ c .if1 .left
 
-fits-requires : tie.Need-fits-requires
-fits-requires c κs = search needs
+fits-sized-requires : tie.Need-fits-sized-requires
+fits-sized-requires c κs = search needs
 
 job-refusal-requires : tie.Need-job-refusal-requires
-job-refusal-requires c κs = λ w. asking (whole (c .before)) (sym (c .fits2 .ensures) ∙ w) .jobs-fit
+job-refusal-requires c κs = λ w. asking (whole (c .before)) (sym (c .fits-sized .ensures .0) ∙ w) .jobs-fit
 
 returns : tie.Need-returns
 unfolding Q.askInheritedRank
@@ -46,7 +47,7 @@ returns c =
 inherited-rank-requires : tie.Need-inherited-rank-requires
 inherited-rank-requires c κs =
     let b = job-asking (whole (c .before .before .before)) (c .before .before .before .args .rank) (not-refused (c)) in
-    (b .0 .jobs-fit, b .0 .objects-fit, b .1 .0)
+    (b .0 .jobs-fit, b .1 .0, well-held (whole (c .before .before .before)) (c .before .before .fits-sized .ensures .1) (b .0 .well))
 
 returns-2 : tie.Need-returns-2
 unfolding Q.askInheritedRank
@@ -58,4 +59,4 @@ returns-2 c =
 pub ask-inherited-rank-spec : {M : Type 1} → statement M
 ask-inherited-rank-spec =
     tie.close
-    (tie.spec fits-requires job-refusal-requires returns inherited-rank-requires returns-2)
+    (tie.spec fits-sized-requires job-refusal-requires returns inherited-rank-requires returns-2)

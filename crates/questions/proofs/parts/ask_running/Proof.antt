@@ -6,6 +6,7 @@ use denote.Ref.{now}
 use mathlib.Core.Path.{_≡_, sym, ap, _∙_}
 use mathlib.Core.Bool.{Bool}
 use borrow.Author.Tests.{eq-eqb, ne-eqb}
+use Rattle.state.specs.Holders.{well-held}
 use Rattle.state.specs.declared.State.{State}
 use Rattle.state.specs.State.{stateOf}
 use Rattle.questions.specs.declared.RankAnswer.{RankAnswer}
@@ -24,13 +25,13 @@ whole c = let a = c .args in
 -- the number that was found is that of the state
 number : (c : tie.After-processor-refusal) → c .processor-refusal .result ≡ processorRefusal (whole (c .before .before)) (c .before .before .args .processor)
 unfolding processorRefusal
-number c = let a = c .before .before .args in c .processor-refusal .ensures ∙ ap (λ (b : Bool). processorRefusalOf b (a .counts .processors) (a .processor)) (c .before .fits2 .ensures)
+number c = let a = c .before .before .args in c .processor-refusal .ensures ∙ ap (λ (b : Bool). processorRefusalOf b (a .counts .processors) (a .processor)) (c .before .fits-sized .ensures .0)
 
 not-refused : (c : tie.Else1) → processorRefusal (whole (c .before .before .before)) (c .before .before .before .args .processor) ≡ 0
 not-refused c = sym (number (c .before)) ∙ c .if1 .left
 
-fits-requires : tie.Need-fits-requires
-fits-requires c κs = search needs
+fits-sized-requires : tie.Need-fits-sized-requires
+fits-sized-requires c κs = search needs
 
 processor-refusal-requires : tie.Need-processor-refusal-requires
 processor-refusal-requires c κs = search needs
@@ -45,7 +46,7 @@ returns c =
 running-rank-requires : tie.Need-running-rank-requires
 running-rank-requires c κs =
     let b = processor-asking (whole (c .before .before .before)) (c .before .before .before .args .processor) (not-refused (c)) in
-    (b .jobs-fit, b .objects-fit)
+    (b .jobs-fit, well-held (whole (c .before .before .before)) (c .before .before .fits-sized .ensures .1) (b .well))
 
 returns-2 : tie.Need-returns-2
 unfolding Q.askRunning
@@ -57,4 +58,4 @@ returns-2 c =
 pub ask-running-spec : {M : Type 1} → statement M
 ask-running-spec =
     tie.close
-    (tie.spec fits-requires processor-refusal-requires returns running-rank-requires returns-2)
+    (tie.spec fits-sized-requires processor-refusal-requires returns running-rank-requires returns-2)
