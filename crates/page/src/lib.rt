@@ -4,6 +4,7 @@ ghost use Prim.Native.Nat.{_≤_};
 ghost use lib.ListN.{length};
 ghost use Rattle.state.specs.State.{stateOf};
 ghost use Rattle.state.specs.Clauses.{Within};
+ghost use Rattle.state.specs.Holders.{HolderFacts, heldState};
 ghost use Rattle.state.specs.Facts.{Sized};
 ghost use Rattle.inheritance.specs.Parts.{runState};
 ghost use Rattle.decimals.specs.Laid.{atFront};
@@ -128,6 +129,7 @@ fn lay_page<'a>(
     request: &'a JobRequests,
 )
     requires { ⌜ Within counts × ProcessorsFit counts (now «processor_of»)
+        × HolderFacts (heldState counts (now «may_read») (now «may_write») holder (now readers) (now writers) (now certified))
         × (length (P.page (runState counts (now «processor_of») active sleeping (now «may_read») (now «may_write») (now readers) (now writers) (now certified) (now request))) ≤ length (now buf)) ⌝ }
     ensures { λ _. ⌜ now (buf .exit) ≡ atFront (P.page (runState counts (now («processor_of» .entry)) active sleeping (now («may_read» .entry)) (now («may_write» .entry))
         (now (readers .entry)) (now (writers .entry)) (now (certified .entry)) (now (request .entry)))) (now (buf .entry)) ⌝ }

@@ -43,7 +43,7 @@ running-ranks-requires c κs = search needs
 
 lay-lines-requires : tie.Need-lay-lines-requires
 lay-lines-requires c κs =
-    (c .before .before .before .before .before .before .before .before .pre .0, c .before .before .before .before .before .before .before .before .pre .1, subst (λ (text : List ℕ). length text ≤ length (now (c .before .before .before .before .before .before .before .before .args .buf))) (sym (lines-are (c .before .before .before))) (c .before .before .before .before .before .before .before .before .pre .2))
+    (c .before .before .before .before .before .before .before .before .pre .0, c .before .before .before .before .before .before .before .before .pre .1, subst (λ (text : List ℕ). length text ≤ length (now (c .before .before .before .before .before .before .before .before .args .buf))) (sym (lines-are (c .before .before .before))) (c .before .before .before .before .before .before .before .before .pre .3))
 
 same-length : tie.Need-same-length
 same-length c = search needs

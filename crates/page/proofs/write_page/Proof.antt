@@ -20,6 +20,7 @@ use Rattle.decimals.specs.Laid.{atFront}
 use Rattle.page.specs.Page.{page}
 use Rattle.page.specs.PageLaws.{page-length, refused-by-8, refused-by-22, page-written}
 use Rattle.page.specs.Parts.{page-parts}
+use Rattle.state.specs.Holders.{holder-facts, held-facts}
 use borrow.Author.Needs.{needs}
 use Rattle.page.proofs.write_page.Statement.{statement}
 use Rattle.page.proofs.write_page.Tie as tie
@@ -69,6 +70,7 @@ lay-page-requires c κs =
     let known = well-facts (c .before .before .before) in (
       known .counts,
       known .processors,
+      held-facts (whole start) (holder-facts (whole start) known),
       subst (λ (text : List ℕ). length text ≤ length (now (start .args .buf))) (page-parts (whole start)) (omega (arith, long (c .before .before), c .before .if2 .left)),
     )
 

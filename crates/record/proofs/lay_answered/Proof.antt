@@ -20,10 +20,10 @@ same-length c = search needs
 
 returns : tie.Need-returns
 returns c =
-    let a = c .before .before .before .before .before .before .before .before .before .before .before .before .before .args in
-    let answered = c .before .before .before .before .act-known .ensures in (
+    let a = $args in
+    let answered = $act-known .ensures in (
       ap (λ (o : Outcome). o .state) answered,
-      laid-is (c .before .before .lay-event .ensures)
+      laid-is ($lay-event .ensures)
           (ap (λ (o : Outcome). eventLine (a .counts .version) (a .number) (a .kind) (a .rank) (a .object) (o .answer)) answered) (le-refl 45),
     )
 
