@@ -8,11 +8,11 @@ use mathlib.Core.List.{List, [], _∷_}
 use lib.Count.{trailingZeros, ones}
 use Rattle.basics.specs.Loops.{every, least, firstNonzero}
 use Rattle.basics.specs.Arrays.{mapped}
-use Rattle.ranks.specs.Ranks.{member, with, without, first}
+use Rattle.ranks.specs.Ranks.{member, with, without, first, mostUrgent, unions}
 use Rattle.state.specs.declared.State.{State}
-use Rattle.state.specs.State.{read, mark, keptIn, dropMarks, activate, await, grant, release, fallAsleep, awaken, endRun}
+use Rattle.state.specs.State.{read, allHolders, mark, keptIn, dropMarks, activate, await, grant, release, fallAsleep, awaken, endRun}
 use Rattle.state.specs.WellFormed.{processorsFit, declarationsFit, aboveIdle, locksFit, oneLockEach}
-use Rattle.state.specs.WellFormed.{writersAlone, waitsFit, marksFit, certifiesFit, sleepersFit, wellFormed}
+use Rattle.state.specs.WellFormed.{writersAlone, waitsFit, marksFit, certifiesFit, sleepersFit, holderFits, holdersInOrder, wellFormed}
 use Rattle.table_bytes.specs.Refusals.{headerRefusal, lengthRefusal, processorByteRefusal, entryRefusal, entriesRefusal, tableRefusal}
 use Rattle.table.specs.Example.{example}
 use Rattle.table.specs.Reading.{processorsOf, withRight, declaredIn, tableState, readTable}
@@ -83,9 +83,9 @@ exampleLines =
 -- the reader accepts the bytes of the table, `example` in table/specs/Example.antt, and the manager answers the lines as they stand
 pub example-answers : (readTable example .refusal ≡ 0) × (replay (readTable example .state) exampleLines ≡ exampleLines)
 unfolding exampleLines replay
-    every least firstNonzero mapped member with without first trailingZeros ones
+    every least firstNonzero mapped unions mostUrgent allHolders member with without first trailingZeros ones
     mark keptIn dropMarks activate await grant release endRun
-    processorsFit declarationsFit aboveIdle locksFit oneLockEach writersAlone waitsFit marksFit certifiesFit sleepersFit wellFormed
+    processorsFit declarationsFit aboveIdle locksFit oneLockEach writersAlone waitsFit marksFit certifiesFit sleepersFit holderFits holdersInOrder wellFormed
     headerRefusal lengthRefusal processorByteRefusal entryRefusal entriesRefusal tableRefusal
     processorsOf withRight declaredIn tableState readTable
     weight othersKey objectKey lowestKeyBy namedKey reason wakeable R.inheritedRank runningRank
@@ -95,7 +95,7 @@ example-answers = (refl, refl)
 -- "where four jobs give 5 for an object that nobody writes" (02, CR 4): object 2 of the same table
 pub example-ceilings : askCeilings (readTable example .state) 2 ≡ Ceilings 5 2
 unfolding every firstNonzero member with first trailingZeros ones
-    processorsFit declarationsFit aboveIdle locksFit oneLockEach writersAlone waitsFit marksFit certifiesFit sleepersFit wellFormed
+    processorsFit declarationsFit aboveIdle locksFit oneLockEach writersAlone waitsFit marksFit certifiesFit sleepersFit holderFits holdersInOrder wellFormed
     headerRefusal lengthRefusal processorByteRefusal entryRefusal entriesRefusal tableRefusal
     processorsOf withRight declaredIn tableState readTable
     objectRefusal askCeilings
@@ -129,9 +129,9 @@ versionsLines =
 
 pub versions-answers : (readTable versionsTable .refusal ≡ 0) × (replay (readTable versionsTable .state) versionsLines ≡ versionsLines)
 unfolding versionsLines replay
-    every least firstNonzero mapped member with without first trailingZeros ones
+    every least firstNonzero mapped unions mostUrgent allHolders member with without first trailingZeros ones
     mark keptIn dropMarks activate await grant release endRun
-    processorsFit declarationsFit aboveIdle locksFit oneLockEach writersAlone waitsFit marksFit certifiesFit sleepersFit wellFormed
+    processorsFit declarationsFit aboveIdle locksFit oneLockEach writersAlone waitsFit marksFit certifiesFit sleepersFit holderFits holdersInOrder wellFormed
     headerRefusal lengthRefusal processorByteRefusal entryRefusal entriesRefusal tableRefusal
     processorsOf withRight declaredIn tableState readTable
     weight othersKey objectKey lowestKeyBy namedKey reason wakeable R.inheritedRank
@@ -166,9 +166,9 @@ sleepLines =
 
 pub sleep-answers : (readTable sleepTable .refusal ≡ 0) × (replay (readTable sleepTable .state) sleepLines ≡ sleepLines)
 unfolding sleepLines replay
-    every least firstNonzero mapped member with without first trailingZeros ones
+    every least firstNonzero mapped unions mostUrgent allHolders member with without first trailingZeros ones
     mark keptIn dropMarks activate await grant release fallAsleep awaken endRun
-    processorsFit declarationsFit aboveIdle locksFit oneLockEach writersAlone waitsFit marksFit certifiesFit sleepersFit wellFormed
+    processorsFit declarationsFit aboveIdle locksFit oneLockEach writersAlone waitsFit marksFit certifiesFit sleepersFit holderFits holdersInOrder wellFormed
     headerRefusal lengthRefusal processorByteRefusal entryRefusal entriesRefusal tableRefusal
     processorsOf withRight declaredIn tableState readTable
     weight othersKey objectKey lowestKeyBy namedKey reason wakeable R.inheritedRank runningRank
@@ -191,9 +191,9 @@ slept = stateAt next label (readTable sleepTable .state) sleepEvents 4
 -- but by the old rule it is granted: nobody writes the object. So the equality needs its condition (`one-processor`).
 pub asleep-differs : (slept .counts .version ≡ 1) × (slept .counts .processors ≡ 1) × (askRunning slept 0 ≡ Rank 2)
     × (paper (step slept 2 2 2 .answer) ≡ waits 1 2 3) × (paper (oldRequest slept read 2 2 .answer) ≡ granted)
-unfolding every least firstNonzero mapped member with without first trailingZeros ones
+unfolding every least firstNonzero mapped unions mostUrgent allHolders member with without first trailingZeros ones
     mark keptIn dropMarks activate await grant release fallAsleep awaken endRun
-    processorsFit declarationsFit aboveIdle locksFit oneLockEach writersAlone waitsFit marksFit certifiesFit sleepersFit wellFormed
+    processorsFit declarationsFit aboveIdle locksFit oneLockEach writersAlone waitsFit marksFit certifiesFit sleepersFit holderFits holdersInOrder wellFormed
     headerRefusal lengthRefusal processorByteRefusal entryRefusal entriesRefusal tableRefusal
     processorsOf withRight declaredIn tableState readTable
     weight oldWeight othersKey objectKey lowestKeyBy namedKey reason wakeable R.inheritedRank runningRank

@@ -6,10 +6,10 @@ use mathlib.Core.List.{List, [], _∷_, _++_}
 use lib.Count.{trailingZeros, ones}
 use Rattle.basics.specs.Loops.{every, least, firstNonzero}
 use Rattle.basics.specs.Arrays.{mapped}
-use Rattle.ranks.specs.Ranks.{member, with, without, first}
-use Rattle.state.specs.State.{activate, await, grant, release, keptIn, dropMarks, endRun}
+use Rattle.ranks.specs.Ranks.{member, with, without, first, mostUrgent, unions}
+use Rattle.state.specs.State.{allHolders, activate, await, grant, release, keptIn, dropMarks, endRun}
 use Rattle.state.specs.WellFormed.{processorsFit, declarationsFit, aboveIdle, locksFit, oneLockEach}
-use Rattle.state.specs.WellFormed.{writersAlone, waitsFit, marksFit, certifiesFit, sleepersFit, wellFormed}
+use Rattle.state.specs.WellFormed.{writersAlone, waitsFit, marksFit, certifiesFit, sleepersFit, holderFits, holdersInOrder, wellFormed}
 use Rattle.table_bytes.specs.Refusals.{headerRefusal, lengthRefusal, processorByteRefusal, entryRefusal, entriesRefusal, tableRefusal}
 use Rattle.table.specs.Example.{example}
 use Rattle.table.specs.Reading.{processorsOf, withRight, declaredIn, tableState, readTable}
@@ -61,9 +61,9 @@ exampleRecord =
 
 pub example-record : recordOf (example ++ exampleEvents) ≡ exampleRecord
 unfolding recordOf eventLines decimalWithin decimal headerLine eventLine endLine shortLine refusedLine
-    every least firstNonzero mapped member with without first trailingZeros ones
+    every least firstNonzero mapped unions mostUrgent allHolders member with without first trailingZeros ones
     activate await grant release endRun
-    processorsFit declarationsFit aboveIdle locksFit oneLockEach writersAlone waitsFit marksFit certifiesFit sleepersFit wellFormed keptIn dropMarks allCertified
+    processorsFit declarationsFit aboveIdle locksFit oneLockEach writersAlone waitsFit marksFit certifiesFit sleepersFit holderFits holdersInOrder wellFormed keptIn dropMarks allCertified
     headerRefusal lengthRefusal processorByteRefusal entryRefusal entriesRefusal tableRefusal
     processorsOf withRight declaredIn tableState readTable
     weight othersKey objectKey lowestKeyBy namedKey reason wakeable

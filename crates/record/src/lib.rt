@@ -3,7 +3,6 @@ ghost use mathlib.Core.Path.{_≡_};
 ghost use Prim.Native.Nat.{_+_, _*_, _/_, _^_, _≤_, _<_};
 ghost use lib.ListN.{length};
 ghost use Rattle.state.specs.State.{stateOf};
-ghost use Rattle.state.specs.WellFormed.{wellFormed};
 ghost use Rattle.manager.specs.Step.{step};
 ghost use Rattle.manager.specs.Keeping.{Tested};
 ghost use Rattle.manager.specs.EventList.{stateAfter};
@@ -43,7 +42,7 @@ fn lay_answered<'a>(
     rank: u8,
     object: u8,
 ) -> usize
-    requires { ⌜ (well ≡ wellFormed (stateOf counts (now «processor_of») (now «may_read») (now «may_write») (now active) (now unlocked) (now sleeping) (now holder) (now readers) (now writers) (now certified) (now request))) × (at + 45 ≤ length (now buf)) ⌝ }
+    requires { ⌜ Tested well (stateOf counts (now «processor_of») (now «may_read») (now «may_write») (now active) (now unlocked) (now sleeping) (now holder) (now readers) (now writers) (now certified) (now request)) × (at + 45 ≤ length (now buf)) ⌝ }
     ensures { λ r. ⌜ (stateOf counts (now («processor_of» .entry)) (now («may_read» .entry)) (now («may_write» .entry)) (now (active .exit)) (now (unlocked .exit)) (now (sleeping .exit)) (now (holder .exit)) (now (readers .exit)) (now (writers .exit)) (now (certified .exit)) (now (request .exit))
         ≡ step (stateOf counts (now («processor_of» .entry)) (now («may_read» .entry)) (now («may_write» .entry)) (now (active .entry)) (now (unlocked .entry)) (now (sleeping .entry)) (now (holder .entry)) (now (readers .entry)) (now (writers .entry)) (now (certified .entry)) (now (request .entry))) kind rank object .state)
         × Laid (now (buf .entry)) (now (buf .exit)) at r 45 (eventLine (counts .version) number kind rank object

@@ -10,7 +10,7 @@ use Rattle.record.proofs.lay_answered.Statement.{statement}
 use Rattle.record.proofs.lay_answered.Tie as tie
 
 act-known-requires : tie.Need-act-known-requires
-act-known-requires c κs = search needs
+act-known-requires c κs = c .before .before .before .before .before .before .before .before .before .pre .0
 
 lay-event-requires : tie.Need-lay-event-requires
 lay-event-requires c κs = search needs
@@ -20,10 +20,10 @@ same-length c = search needs
 
 returns : tie.Need-returns
 returns c =
-    let a = $args in
-    let answered = $act-known .ensures in (
+    let a = c .before .before .before .before .before .before .before .before .before .before .before .before .before .before .args in
+    let answered = c .before .before .before .before .act-known .ensures in (
       ap (λ (o : Outcome). o .state) answered,
-      laid-is ($lay-event .ensures)
+      laid-is (c .before .before .lay-event .ensures)
           (ap (λ (o : Outcome). eventLine (a .counts .version) (a .number) (a .kind) (a .rank) (a .object) (o .answer)) answered) (le-refl 45),
     )
 

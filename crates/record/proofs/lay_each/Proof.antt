@@ -22,7 +22,7 @@ abbrev μ-loop : tie.MeasureT-loop
     length bytes - at
 
 loop-holds : tie.Need-loop-holds Inv-loop μ-loop
-loop-holds c = run-start _ _ _ _ _ ($pre .0)
+loop-holds c = run-start _ _ _ _ _ (c .before .before .pre .0)
 
 sub-loop : tie.Need-sub-loop Inv-loop μ-loop
 sub-loop c = search needs
@@ -46,11 +46,11 @@ shared-slice-read-lay-answered-3 : tie.Need-shared-slice-read-lay-answered-3 Inv
 shared-slice-read-lay-answered-3 c = search needs
 
 lay-answered-requires : tie.Need-lay-answered-requires Inv-loop μ-loop
-lay-answered-requires c κs = ($loop .inv .tested .found, omega (arith, $loop .inv .laid .within, $loop .inv .inside, $loop .inv .size, $pre .1))
+lay-answered-requires c κs = (c .before .before .before .before .before .before .before .before .before .before .before .before .before .loop .inv .tested, omega (arith, c .before .before .before .before .before .before .before .before .before .before .before .before .before .loop .inv .laid .within, c .before .before .before .before .before .before .before .before .before .before .before .before .before .loop .inv .inside, c .before .before .before .before .before .before .before .before .before .before .before .before .before .loop .inv .size, c .before .before .before .before .before .before .before .before .before .before .before .before .before .before .before .before .pre .1))
 
 add-at : tie.Need-add-at Inv-loop μ-loop
 add-at c =
-    let inside = $good .1 .1 .1 .1 .1 .1 .1 .1 .1 .1 .1 .1 .1 .1 .0 .0 in
+    let inside = c .before .before .before .before .before .before .before .before .before .before .before .before .before .before .before .before .before .before .before .good .1 .1 .1 .1 .1 .1 .1 .1 .1 .1 .1 .1 .1 .1 .1 .0 .0 in
     omega (arith, inside)
 
 loop-less : tie.Need-loop-less Inv-loop μ-loop
@@ -58,14 +58,14 @@ loop-less c = search needs
 
 loop-again : tie.Need-loop-again Inv-loop μ-loop
 loop-again c =
-    let answered = $lay-answered .ensures in
-    run-turn _ _ _ _ _ _ _ _ _ _ ($loop .inv) (omega arith) _ _ _ (answered .0) (answered .1)
+    let answered = c .before .before .lay-answered .ensures in
+    run-turn _ _ _ _ _ _ _ _ _ _ (c .before .before .before .before .before .before .before .before .before .before .before .before .before .before .before .before .loop .inv) (omega arith) _ _ _ (answered .0) (answered .1)
 
 same-length : tie.Need-same-length Inv-loop μ-loop
 same-length c = search needs
 
 returns : tie.Need-returns Inv-loop μ-loop
-returns c = run-end _ _ _ _ _ _ _ _ _ _ ($loop .inv) (omega arith)
+returns c = run-end _ _ _ _ _ _ _ _ _ _ (c .before .loop .inv) (omega arith)
 
 pub lay-each-spec : {M : Type 1} → statement M
 lay-each-spec =

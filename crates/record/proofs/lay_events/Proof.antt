@@ -12,13 +12,13 @@ fits-sized-requires : tie.Need-fits-sized-requires
 fits-sized-requires c κs = search needs
 
 lay-each-requires : tie.Need-lay-each-requires
-lay-each-requires c κs = (record { sized = $fits-sized .ensures .1; found = $fits-sized .ensures .0 }, $pre .0, $pre .1)
+lay-each-requires c κs = (record { sized = c .before .before .before .before .before .before .before .before .before .fits-sized .ensures .1; found = c .before .before .before .before .before .before .before .before .before .fits-sized .ensures .0 }, c .before .before .before .before .before .before .before .before .before .before .before .before .before .before .before .before .before .before .before .before .pre .0, c .before .before .before .before .before .before .before .before .before .before .before .before .before .before .before .before .before .before .before .before .pre .1)
 
 same-length : tie.Need-same-length
 same-length c = search needs
 
 returns : tie.Need-returns
-returns c = $lay-each .ensures
+returns c = c .before .before .lay-each .ensures
 
 pub lay-events-spec : {M : Type 1} → statement M
 lay-events-spec = tie.close (tie.spec fits-sized-requires lay-each-requires same-length returns)
