@@ -19,26 +19,26 @@ most-lines-requires : tie.Need-most-lines-requires
 most-lines-requires c κs = search needs
 
 open-table-requires : tie.Need-open-table-requires
-open-table-requires c κs = omega (arith, $most-lines .ensures, $if1 .taken)
+open-table-requires c κs = omega (arith, c .before .before .before .before .most-lines .ensures, c .before .before .before .if1 .taken)
 
 same-length : tie.Need-same-length
 same-length c = search needs
 
 returns : tie.Need-returns
 returns c =
-    let r : Bench = $args .bench in
-    let bytes : List ℕ = now ($args .bytes) in
-    let most : ℕ = mostLines (length (now ($args .lines))) r in
-    let some : 1 ≤ most = omega (arith, $most-lines .ensures, $if1 .taken) in
-    advances-is ($open-table .ensures) (advance-open most r bytes some ($if2 .taken))
+    let r : Bench = c .before .before .before .before .before .before .before .before .before .before .args .bench in
+    let bytes : List ℕ = now (c .before .before .before .before .before .before .before .before .before .before .args .bytes) in
+    let most : ℕ = mostLines (length (now (c .before .before .before .before .before .before .before .before .before .before .args .lines))) r in
+    let some : 1 ≤ most = omega (arith, c .before .before .before .before .before .before .before .most-lines .ensures, c .before .before .before .before .before .before .if1 .taken) in
+    advances-is (c .before .before .open-table .ensures) (advance-open most r bytes some (c .before .before .before .before .if2 .taken))
 
 smaller-requires : tie.Need-smaller-requires
 smaller-requires c κs = search needs
 
 answer-requires : tie.Need-answer-requires
 answer-requires c κs =
-    let most = $most-lines .ensures in
-    let count = $smaller .ensures in
+    let most = c .before .before .before .before .before .before .before .most-lines .ensures in
+    let count = c .before .smaller .ensures in
     (omega (arith, count), omega (arith, most, count), omega (arith, most, count))
 
 same-length-2 : tie.Need-same-length-2
@@ -46,24 +46,24 @@ same-length-2 c = search needs
 
 returns-2 : tie.Need-returns-2
 returns-2 c =
-    let r : Bench = $args .bench in
-    let bytes : List ℕ = now ($args .bytes) in
-    let most : ℕ = mostLines (length (now ($args .lines))) r in
-    let some : 1 ≤ most = omega (arith, $most-lines .ensures, $if1 .taken) in
-    let count = $smaller .ensures ∙ ap (λ (n : ℕ). min n (length bytes / 3)) ($most-lines .ensures) in
-    advances-is ($answer .ensures) (advance-events most r bytes some ($if3 .taken) ∙ ap (λ (n : ℕ). answering n r bytes) (sym count))
+    let r : Bench = c .before .before .before .before .before .before .before .before .before .before .before .before .before .args .bench in
+    let bytes : List ℕ = now (c .before .before .before .before .before .before .before .before .before .before .before .before .before .args .bytes) in
+    let most : ℕ = mostLines (length (now (c .before .before .before .before .before .before .before .before .before .before .before .before .before .args .lines))) r in
+    let some : 1 ≤ most = omega (arith, c .before .before .before .before .before .before .before .before .before .before .most-lines .ensures, c .before .before .before .before .before .before .before .before .before .if1 .taken) in
+    let count = c .before .before .before .before .smaller .ensures ∙ ap (λ (n : ℕ). min n (length bytes / 3)) (c .before .before .before .before .before .before .before .before .before .before .most-lines .ensures) in
+    advances-is (c .before .before .answer .ensures) (advance-events most r bytes some (c .before .before .before .before .before .if3 .taken) ∙ ap (λ (n : ℕ). answering n r bytes) (sym count))
 
 returns-3 : tie.Need-returns-3
 returns-3 c =
-    let r : Bench = $args .bench in
+    let r : Bench = c .before .before .before .before .before .before .before .before .args .bench in
     let nonzero = c .if3 .left in
-    let not-one = $if2 .left in
-    advances-is (nothing-done r (now ($args .lines))) (advance-none (mostLines (length (now ($args .lines))) r) r (now ($args .bytes)) (inr (omega arith)))
+    let not-one = c .before .before .if2 .left in
+    advances-is (nothing-done r (now (c .before .before .before .before .before .before .before .before .args .lines))) (advance-none (mostLines (length (now (c .before .before .before .before .before .before .before .before .args .lines))) r) r (now (c .before .before .before .before .before .before .before .before .args .bytes)) (inr (omega arith)))
 
 returns-4 : tie.Need-returns-4
 returns-4 c =
-    let r : Bench = $args .bench in
-    advances-is (nothing-done r (now ($args .lines))) (advance-none (mostLines (length (now ($args .lines))) r) r (now ($args .bytes)) (inl (omega (arith, $most-lines .ensures, c .if1 .left))))
+    let r : Bench = c .before .before .before .before .args .bench in
+    advances-is (nothing-done r (now (c .before .before .before .before .args .lines))) (advance-none (mostLines (length (now (c .before .before .before .before .args .lines))) r) r (now (c .before .before .before .before .args .bytes)) (inl (omega (arith, c .before .most-lines .ensures, c .if1 .left))))
 
 pub advance-spec : {M : Type 1} → statement M
 advance-spec =

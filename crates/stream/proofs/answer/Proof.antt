@@ -17,28 +17,28 @@ mul-used c = search needs
 
 slice-aggregate-lay-events : tie.Need-slice-aggregate-lay-events
 slice-aggregate-lay-events c =
-    let a = $args in
-    sym (length-take-le (3 * a .count) (now (a .bytes)) ($pre .0))
+    let a = c .before .before .before .before .before .before .before .before .before .before .before .before .before .before .before .before .before .before .before .before .before .before .args in
+    sym (length-take-le (3 * a .count) (now (a .bytes)) (c .before .before .before .before .before .before .before .before .before .before .before .before .before .before .before .before .before .before .before .before .before .before .pre .0))
 
 lay-events-requires : tie.Need-lay-events-requires
 lay-events-requires c κs =
-    let a = $args in
-    let p = $pre in
+    let a = c .before .before .before .before .before .before .before .before .before .before .before .before .before .before .before .before .before .before .before .before .before .before .args in
+    let p = c .before .before .before .before .before .before .before .before .before .before .before .before .before .before .before .before .before .before .before .before .before .before .pre in
     let size : length (take (3 * a .count) (now (a .bytes))) ≡ 3 * a .count = length-take-le (3 * a .count) (now (a .bytes)) (p .0) in
     (omega (arith, p .1), omega (arith, p .0, p .2))
 
-add-t36 : tie.Need-add-t36
-add-t36 c = record { fits = omega (arith, $pre .2) }
+add-t39 : tie.Need-add-t39
+add-t39 c = record { fits = omega (arith, c .before .before .before .before .before .before .before .before .before .before .before .before .before .before .before .before .before .before .before .before .before .before .before .before .before .before .pre .2) }
 
 same-length : tie.Need-same-length
 same-length c = search needs
 
 returns : tie.Need-returns
 returns c =
-    let a = $args in
-    let p = $pre in
+    let a = c .before .before .before .before .before .before .before .before .before .before .before .before .before .before .before .before .before .before .before .before .before .before .before .before .before .before .args in
+    let p = c .before .before .before .before .before .before .before .before .before .before .before .before .before .before .before .before .before .before .before .before .before .before .before .before .before .before .pre in
     let size : length (take (3 * a .count) (now (a .bytes))) ≡ 3 * a .count = length-take-le (3 * a .count) (now (a .bytes)) (p .0) in
-    let answered = $lay-events .ensures in
+    let answered = c .before .before .before .lay-events .ensures in
     record {
       bench = ap (λ (s : State). record { refusal = 0; events = a .bench .events + a .count; state = s }) (answered .0);
       used = refl;
@@ -48,4 +48,4 @@ returns c =
 pub answer-spec : {M : Type 1} → statement M
 answer-spec =
     tie.close
-    (tie.spec mul-used slice-aggregate-lay-events lay-events-requires add-t36 same-length returns)
+    (tie.spec mul-used slice-aggregate-lay-events lay-events-requires add-t39 same-length returns)

@@ -15,10 +15,10 @@ same-length : tie.Need-same-length
 same-length c = search needs
 
 returns : tie.Need-returns
-returns c = laid-is ($lay-refused .ensures) (last-cut ($args .bench) ($args .left) ($if1 .taken)) (omega arith)
+returns c = laid-is (c .before .before .lay-refused .ensures) (last-cut (c .before .before .before .before .before .before .before .args .bench) (c .before .before .before .before .before .before .before .args .left) (c .before .before .before .before .if1 .taken)) (omega arith)
 
 returns-2 : tie.Need-returns-2
-returns-2 c = laid-is (nothing-laid (now ($args .lines)) 45) (last-refused ($args .bench) ($args .left) (c .if2 .taken) ($if1 .left)) (omega arith)
+returns-2 c = laid-is (nothing-laid (now (c .before .before .before .before .before .args .lines)) 45) (last-refused (c .before .before .before .before .before .args .bench) (c .before .before .before .before .before .args .left) (c .if2 .taken) (c .before .before .if1 .left)) (omega arith)
 
 lay-end-requires : tie.Need-lay-end-requires
 lay-end-requires c κs = search needs
@@ -27,7 +27,7 @@ same-length-2 : tie.Need-same-length-2
 same-length-2 c = search needs
 
 returns-3 : tie.Need-returns-3
-returns-3 c = laid-is ($lay-end .ensures) (last-end ($args .bench) ($args .left) ($if2 .left) ($if3 .taken)) (omega arith)
+returns-3 c = laid-is (c .before .before .lay-end .ensures) (last-end (c .before .before .before .before .before .before .before .before .before .before .args .bench) (c .before .before .before .before .before .before .before .before .before .before .args .left) (c .before .before .before .before .before .if2 .left) (c .before .before .before .before .if3 .taken)) (omega arith)
 
 lay-short-requires : tie.Need-lay-short-requires
 lay-short-requires c κs = search needs
@@ -36,7 +36,7 @@ same-length-3 : tie.Need-same-length-3
 same-length-3 c = search needs
 
 returns-4 : tie.Need-returns-4
-returns-4 c = laid-is ($lay-short .ensures) (last-short ($args .bench) ($args .left) ($if2 .left) ($if3 .left)) (omega arith)
+returns-4 c = laid-is (c .before .before .lay-short .ensures) (last-short (c .before .before .before .before .before .before .before .before .before .before .args .bench) (c .before .before .before .before .before .before .before .before .before .before .args .left) (c .before .before .before .before .before .if2 .left) (c .before .before .before .before .if3 .left)) (omega arith)
 
 pub lay-last-spec : {M : Type 1} → statement M
 lay-last-spec =

@@ -15,10 +15,10 @@ same-length : tie.Need-same-length
 same-length c = search needs
 
 returns : tie.Need-returns
-returns c = laid-is ($lay-header .ensures) (opening-accepted _ _ ($if1 .taken)) (omega arith)
+returns c = laid-is (c .before .before .lay-header .ensures) (opening-accepted _ _ (c .before .before .before .before .if1 .taken)) (omega arith)
 
 returns-2 : tie.Need-returns-2
-returns-2 c = laid-is (nothing-laid (now ($args .lines)) 45) (opening-cut _ _ (c .if2 .taken)) (omega arith)
+returns-2 c = laid-is (nothing-laid (now (c .before .before .before .args .lines)) 45) (opening-cut _ _ (c .if2 .taken)) (omega arith)
 
 lay-refused-requires : tie.Need-lay-refused-requires
 lay-refused-requires c κs = search needs
@@ -27,7 +27,7 @@ same-length-2 : tie.Need-same-length-2
 same-length-2 c = search needs
 
 returns-3 : tie.Need-returns-3
-returns-3 c = laid-is ($lay-refused .ensures) (opening-refused _ _ ($if1 .left) ($if2 .left)) (omega arith)
+returns-3 c = laid-is (c .before .before .lay-refused .ensures) (opening-refused _ _ (c .before .before .before .before .before .if1 .left) (c .before .before .before .before .if2 .left)) (omega arith)
 
 pub lay-opening-spec : {M : Type 1} → statement M
 lay-opening-spec =

@@ -20,11 +20,11 @@ same-length c = search needs
 
 returns : tie.Need-returns
 returns c =
-    let is = $read-table .ensures in
+    let is = c .before .before .before .before .before .read-table .ensures in
     record {
       bench = ap opened is;
       used = ap (λ (t : TableRead). t .used) is;
-      laid = laid-is ($lay-opening .ensures) (ap (λ (t : TableRead). opening t .lines) is) (omega arith);
+      laid = laid-is (c .before .before .lay-opening .ensures) (ap (λ (t : TableRead). opening t .lines) is) (omega arith);
     }
 
 pub open-table-spec : {M : Type 1} → statement M
