@@ -94,7 +94,7 @@ example-answers = (refl, refl)
 
 -- "where four jobs give 5 for an object that nobody writes" (02, CR 4): object 2 of the same table
 pub example-ceilings : askCeilings (readTable example .state) 2 ≡ Ceilings 5 2
-unfolding every firstNonzero member with first trailingZeros ones
+unfolding every firstNonzero unions mostUrgent allHolders member with first trailingZeros ones
     processorsFit declarationsFit aboveIdle locksFit oneLockEach writersAlone waitsFit marksFit certifiesFit sleepersFit holderFits holdersInOrder wellFormed
     headerRefusal lengthRefusal processorByteRefusal entryRefusal entriesRefusal tableRefusal
     processorsOf withRight declaredIn tableState readTable

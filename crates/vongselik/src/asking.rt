@@ -93,15 +93,15 @@ pub extern "C" fn vongselik_parts_named_lock<'a>(
     certified: &'a ObjectMarks,
     request: &'a JobRequests,
     rank: u8,
-    holder: &mut u8,
-    object: &mut u8,
+    named_holder: &mut u8,
+    named_object: &mut u8,
 ) -> u8
     ensures number { λ r. ⌜ r ≡ namedReply (Q.askNamedLock (stateOf (countsOf version processors jobs objects) (now («processor_of» .entry)) (now («may_read» .entry)) (now («may_write» .entry))
         active unlocked sleeping holder (now (readers .entry)) (now (writers .entry)) (now (certified .entry)) (now (request .entry))) rank) .refusal ⌝ }
-    ensures holder { λ _. ⌜ now (holder .exit) ≡ value (namedReply (Q.askNamedLock (stateOf (countsOf version processors jobs objects) (now («processor_of» .entry)) (now («may_read» .entry)) (now («may_write» .entry))
-        active unlocked sleeping holder (now (readers .entry)) (now (writers .entry)) (now (certified .entry)) (now (request .entry))) rank)) 0 (now (holder .entry)) ⌝ }
-    ensures object { λ _. ⌜ now (object .exit) ≡ value (namedReply (Q.askNamedLock (stateOf (countsOf version processors jobs objects) (now («processor_of» .entry)) (now («may_read» .entry)) (now («may_write» .entry))
-        active unlocked sleeping holder (now (readers .entry)) (now (writers .entry)) (now (certified .entry)) (now (request .entry))) rank)) 1 (now (object .entry)) ⌝ }
+    ensures holder { λ _. ⌜ now («named_holder» .exit) ≡ value (namedReply (Q.askNamedLock (stateOf (countsOf version processors jobs objects) (now («processor_of» .entry)) (now («may_read» .entry)) (now («may_write» .entry))
+        active unlocked sleeping holder (now (readers .entry)) (now (writers .entry)) (now (certified .entry)) (now (request .entry))) rank)) 0 (now («named_holder» .entry)) ⌝ }
+    ensures object { λ _. ⌜ now («named_object» .exit) ≡ value (namedReply (Q.askNamedLock (stateOf (countsOf version processors jobs objects) (now («processor_of» .entry)) (now («may_read» .entry)) (now («may_write» .entry))
+        active unlocked sleeping holder (now (readers .entry)) (now (writers .entry)) (now (certified .entry)) (now (request .entry))) rank)) 1 (now («named_object» .entry)) ⌝ }
 {
     let counts = Counts {
         version,
@@ -126,11 +126,11 @@ pub extern "C" fn vongselik_parts_named_lock<'a>(
     );
     match answer {
         NamedAnswer::Lock {
-            holder: named_holder,
-            object: named_object,
+            holder: other,
+            object,
         } => {
-            *holder = named_holder;
-            *object = named_object;
+            *named_holder = other;
+            *named_object = object;
             0
         }
         NamedAnswer::Refused(number) => number,

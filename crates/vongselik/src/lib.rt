@@ -19,7 +19,7 @@ use state::JobRequests;
 use state::ObjectMarks;
 use state::Sets;
 use state::SetsMut;
-use well_formed::fits;
+use well_formed::fits_sized;
 
 // An event: its answer packed into a number that can be taken apart again, and the parts of the next state. A refusal, by 8 to 18 or 21, leaves every part as it was.
 #[no_mangle]
@@ -58,7 +58,7 @@ pub extern "C" fn vongselik_parts_event<'a>(
         jobs,
         objects,
     };
-    let well = fits(
+    let well = fits_sized(
         counts,
         processor_of,
         may_read,

@@ -21,12 +21,12 @@ enum-known-answer-2 c = search needs
 returns : tie.Need-returns
 returns c =
     let e = sym (c .before .answer .given .1) ∙ c .before .before .before .ask-named-lock .ensures in
-    (ap (λ (a : NamedAnswer). namedReply a .refusal) e, (ap (λ (a : NamedAnswer). value (namedReply a) 0 (now (c .before .before .before .before .args .holder))) e, ap (λ (a : NamedAnswer). value (namedReply a) 1 (now (c .before .before .before .before .args .object))) e))
+    (ap (λ (a : NamedAnswer). namedReply a .refusal) e, (ap (λ (a : NamedAnswer). value (namedReply a) 0 (now (c .before .before .before .before .args .named-holder))) e, ap (λ (a : NamedAnswer). value (namedReply a) 1 (now (c .before .before .before .before .args .named-object))) e))
 
 returns-2 : tie.Need-returns-2
 returns-2 c =
     let e = sym (c .before .answer2 .given .1) ∙ c .before .before .before .ask-named-lock .ensures in
-    (ap (λ (a : NamedAnswer). namedReply a .refusal) e, (ap (λ (a : NamedAnswer). value (namedReply a) 0 (now (c .before .before .before .before .args .holder))) e, ap (λ (a : NamedAnswer). value (namedReply a) 1 (now (c .before .before .before .before .args .object))) e))
+    (ap (λ (a : NamedAnswer). namedReply a .refusal) e, (ap (λ (a : NamedAnswer). value (namedReply a) 0 (now (c .before .before .before .before .args .named-holder))) e, ap (λ (a : NamedAnswer). value (namedReply a) 1 (now (c .before .before .before .before .args .named-object))) e))
 
 pub vongselik-parts-named-lock-spec : {M : Type 1} → statement M
 vongselik-parts-named-lock-spec =
