@@ -42,13 +42,18 @@ extern "C" {
 /* ---- The state */
 
 /* A table and its locks. In a set of ranks, rank r is bit r - 1. All is filled in by vongselik_read_table, and changed by vongselik_event
- * and vongselik_events. */
+ * and vongselik_events. What it says has to fit together, or every call refuses it by 8; what these calls leave always does.
+ * The holder follows from the locks, and they keep it true: it is not for the caller to set. Whoever puts a state together by hand, or changes its locks, has
+ * to put the true rank there too; and of two jobs that hold locks, the more urgent one has to be more urgent than every weight that the other holds. A read
+ * lock weighs the more urgent of the object's write ceiling and its holder's own rank, a write lock the absolute ceiling, on a version 2 table the write
+ * ceiling, and a certify lock the absolute ceiling. */
 typedef struct vongselik_state {
     uint8_t version;                                   /* 1 or 2 */
     uint8_t processors;                                /* 1 to 8 */
     uint8_t jobs;                                      /* 1 to 64: the ranks are 1 to jobs */
     uint8_t objects;                                   /* 1 to 128: the objects are 1 to objects */
     uint8_t processor_of[VONGSELIK_MOST_JOBS];         /* by rank - 1 */
+    uint8_t holder;                                    /* the most urgent rank that holds a lock, 0 if none holds any */
     uint64_t may_read[VONGSELIK_MOST_OBJECTS];         /* by object - 1: the ranks that are declared to read it */
     uint64_t may_write[VONGSELIK_MOST_OBJECTS];        /* by object - 1: the ranks that are declared to write it */
     uint64_t active;                                   /* the ranks of active jobs */
@@ -103,7 +108,7 @@ enum {
     VONGSELIK_ENTRY_OUT_OF_RANGE = 6,
     VONGSELIK_ENTRY_OUT_OF_ORDER = 7,
     /* by the state handed in */
-    VONGSELIK_STATE_NOT_WELL_FORMED = 8,
+    VONGSELIK_STATE_NOT_WELL_FORMED = 8, /* also if it carries a holder that is not the most urgent one, or has holders out of order */
     /* by the event or the question */
     VONGSELIK_UNKNOWN_KIND = 9, /* or certify on a version 1 table */
     VONGSELIK_RANK_OUT_OF_RANGE = 10,
@@ -147,55 +152,55 @@ typedef struct vongselik_entries {
 
 uint32_t vongselik_parts_event(
     uint8_t version, uint8_t processors, uint8_t jobs, uint8_t objects, const uint8_t *processor_of, const uint64_t *may_read, const uint64_t *may_write,
-    uint64_t *active, uint64_t *unlocked, uint64_t *sleeping, uint64_t *readers, uint64_t *writers, uint64_t *certified, uint16_t *request,
+    uint64_t *active, uint64_t *unlocked, uint64_t *sleeping, uint8_t *holder, uint64_t *readers, uint64_t *writers, uint64_t *certified, uint16_t *request,
     uint8_t kind, uint8_t rank, uint8_t object);
 
 size_t vongselik_parts_events(
     uint8_t version, uint8_t processors, uint8_t jobs, uint8_t objects, const uint8_t *processor_of, const uint64_t *may_read, const uint64_t *may_write,
-    uint64_t *active, uint64_t *unlocked, uint64_t *sleeping, uint64_t *readers, uint64_t *writers, uint64_t *certified, uint16_t *request,
+    uint64_t *active, uint64_t *unlocked, uint64_t *sleeping, uint8_t *holder, uint64_t *readers, uint64_t *writers, uint64_t *certified, uint16_t *request,
     const uint8_t *events, size_t events_size, uint32_t *answers, size_t answers_size);
 
 uint8_t vongselik_parts_inherited_rank(
     uint8_t version, uint8_t processors, uint8_t jobs, uint8_t objects, const uint8_t *processor_of, const uint64_t *may_read, const uint64_t *may_write,
-    uint64_t active, uint64_t unlocked, uint64_t sleeping, const uint64_t *readers, const uint64_t *writers, const uint64_t *certified, const uint16_t *request,
-    uint8_t rank, uint8_t *inherited);
+    uint64_t active, uint64_t unlocked, uint64_t sleeping, uint8_t holder, const uint64_t *readers, const uint64_t *writers, const uint64_t *certified,
+    const uint16_t *request, uint8_t rank, uint8_t *inherited);
 
 uint8_t vongselik_parts_named_lock(
     uint8_t version, uint8_t processors, uint8_t jobs, uint8_t objects, const uint8_t *processor_of, const uint64_t *may_read, const uint64_t *may_write,
-    uint64_t active, uint64_t unlocked, uint64_t sleeping, const uint64_t *readers, const uint64_t *writers, const uint64_t *certified, const uint16_t *request,
-    uint8_t rank, uint8_t *holder, uint8_t *object);
+    uint64_t active, uint64_t unlocked, uint64_t sleeping, uint8_t holder, const uint64_t *readers, const uint64_t *writers, const uint64_t *certified,
+    const uint16_t *request, uint8_t rank, uint8_t *named_holder, uint8_t *named_object);
 
 uint8_t vongselik_parts_ceilings(
     uint8_t version, uint8_t processors, uint8_t jobs, uint8_t objects, const uint8_t *processor_of, const uint64_t *may_read, const uint64_t *may_write,
-    uint64_t active, uint64_t unlocked, uint64_t sleeping, const uint64_t *readers, const uint64_t *writers, const uint64_t *certified, const uint16_t *request,
-    uint8_t object, uint16_t *write_ceiling, uint16_t *absolute_ceiling);
+    uint64_t active, uint64_t unlocked, uint64_t sleeping, uint8_t holder, const uint64_t *readers, const uint64_t *writers, const uint64_t *certified,
+    const uint16_t *request, uint8_t object, uint16_t *write_ceiling, uint16_t *absolute_ceiling);
 
 uint8_t vongselik_parts_running(
     uint8_t version, uint8_t processors, uint8_t jobs, uint8_t objects, const uint8_t *processor_of, const uint64_t *may_read, const uint64_t *may_write,
-    uint64_t active, uint64_t unlocked, uint64_t sleeping, const uint64_t *readers, const uint64_t *writers, const uint64_t *certified, const uint16_t *request,
-    uint8_t processor, uint8_t *rank);
+    uint64_t active, uint64_t unlocked, uint64_t sleeping, uint8_t holder, const uint64_t *readers, const uint64_t *writers, const uint64_t *certified,
+    const uint16_t *request, uint8_t processor, uint8_t *rank);
 
 uint8_t vongselik_parts_read_table(
     const uint8_t *bytes, size_t size, size_t *used, uint8_t *version, uint8_t *processors, uint8_t *jobs, uint8_t *objects, uint8_t *processor_of,
-    uint64_t *may_read, uint64_t *may_write, uint64_t *active, uint64_t *unlocked, uint64_t *sleeping, uint64_t *readers, uint64_t *writers,
-    uint64_t *certified, uint16_t *request);
+    uint64_t *may_read, uint64_t *may_write, uint64_t *active, uint64_t *unlocked, uint64_t *sleeping, uint8_t *holder, uint64_t *readers,
+    uint64_t *writers, uint64_t *certified, uint16_t *request);
 
 uint8_t vongselik_parts_job_entries(const uint8_t *bytes, size_t size, uint8_t rank, size_t *start, size_t *length);
 
 uint8_t vongselik_parts_write_table(
     uint8_t version, uint8_t processors, uint8_t jobs, uint8_t objects, const uint8_t *processor_of, const uint64_t *may_read, const uint64_t *may_write,
-    uint64_t active, uint64_t unlocked, uint64_t sleeping, const uint64_t *readers, const uint64_t *writers, const uint64_t *certified, const uint16_t *request,
-    uint8_t *buffer, size_t size, size_t *length);
+    uint64_t active, uint64_t unlocked, uint64_t sleeping, uint8_t holder, const uint64_t *readers, const uint64_t *writers, const uint64_t *certified,
+    const uint16_t *request, uint8_t *buffer, size_t size, size_t *length);
 
 uint8_t vongselik_parts_page(
     uint8_t version, uint8_t processors, uint8_t jobs, uint8_t objects, const uint8_t *processor_of, const uint64_t *may_read, const uint64_t *may_write,
-    uint64_t active, uint64_t unlocked, uint64_t sleeping, const uint64_t *readers, const uint64_t *writers, const uint64_t *certified, const uint16_t *request,
-    uint8_t *buffer, size_t size, size_t *length);
+    uint64_t active, uint64_t unlocked, uint64_t sleeping, uint8_t holder, const uint64_t *readers, const uint64_t *writers, const uint64_t *certified,
+    const uint16_t *request, uint8_t *buffer, size_t size, size_t *length);
 
 uint8_t vongselik_parts_make_events(
     uint8_t version, uint8_t processors, uint8_t jobs, uint8_t objects, const uint8_t *processor_of, const uint64_t *may_read, const uint64_t *may_write,
-    uint64_t active, uint64_t unlocked, uint64_t sleeping, const uint64_t *readers, const uint64_t *writers, const uint64_t *certified, const uint16_t *request,
-    uint32_t *seed, size_t count, uint8_t *buffer, size_t size);
+    uint64_t active, uint64_t unlocked, uint64_t sleeping, uint8_t holder, const uint64_t *readers, const uint64_t *writers, const uint64_t *certified,
+    const uint16_t *request, uint32_t *seed, size_t count, uint8_t *buffer, size_t size);
 
 /* ---- Tables */
 
@@ -207,7 +212,7 @@ static inline uint8_t vongselik_read_table(vongselik_state *state, const uint8_t
     const uint8_t none = 0;
     return vongselik_parts_read_table(
         size ? bytes : &none, size, used, &state->version, &state->processors, &state->jobs, &state->objects, state->processor_of, state->may_read,
-        state->may_write, &state->active, &state->unlocked, &state->sleeping, state->readers, state->writers, state->certified, state->request);
+        state->may_write, &state->active, &state->unlocked, &state->sleeping, &state->holder, state->readers, state->writers, state->certified, state->request);
 }
 
 /* Says where the entries of one job stand in table bytes; length 0 if it has none.
@@ -227,7 +232,7 @@ static inline uint8_t vongselik_write_table(const vongselik_state *state, uint8_
     uint8_t none = 0;
     return vongselik_parts_write_table(
         state->version, state->processors, state->jobs, state->objects, state->processor_of, state->may_read, state->may_write, state->active,
-        state->unlocked, state->sleeping, state->readers, state->writers, state->certified, state->request, size ? buffer : &none, size, length);
+        state->unlocked, state->sleeping, state->holder, state->readers, state->writers, state->certified, state->request, size ? buffer : &none, size, length);
 }
 
 /* ---- Events */
@@ -255,7 +260,7 @@ static inline vongselik_answer vongselik_event(vongselik_state *state, uint8_t k
 {
     return vongselik_unpack(vongselik_parts_event(
         state->version, state->processors, state->jobs, state->objects, state->processor_of, state->may_read, state->may_write, &state->active,
-        &state->unlocked, &state->sleeping, state->readers, state->writers, state->certified, state->request, kind, rank, object));
+        &state->unlocked, &state->sleeping, &state->holder, state->readers, state->writers, state->certified, state->request, kind, rank, object));
 }
 
 /* A list of events, three bytes each: kind, rank, object. Changes the state and answers them in their order, each as vongselik_event does:
@@ -271,8 +276,8 @@ static inline size_t vongselik_events(vongselik_state *state, const uint8_t *eve
     uint32_t no_answer = 0;
     return vongselik_parts_events(
         state->version, state->processors, state->jobs, state->objects, state->processor_of, state->may_read, state->may_write, &state->active,
-        &state->unlocked, &state->sleeping, state->readers, state->writers, state->certified, state->request, count ? events : &no_event, 3 * count,
-        count ? answers : &no_answer, count);
+        &state->unlocked, &state->sleeping, &state->holder, state->readers, state->writers, state->certified, state->request,
+        count ? events : &no_event, 3 * count, count ? answers : &no_answer, count);
 }
 
 /* ---- Questions. The state is only read. */
@@ -283,7 +288,7 @@ static inline uint8_t vongselik_inherited_rank(const vongselik_state *state, uin
 {
     return vongselik_parts_inherited_rank(
         state->version, state->processors, state->jobs, state->objects, state->processor_of, state->may_read, state->may_write, state->active,
-        state->unlocked, state->sleeping, state->readers, state->writers, state->certified, state->request, rank, inherited);
+        state->unlocked, state->sleeping, state->holder, state->readers, state->writers, state->certified, state->request, rank, inherited);
 }
 
 /* Sets *holder and *object to the lock that an active job names, 0 and 0 if it names nobody. Answers 0.
@@ -292,7 +297,7 @@ static inline uint8_t vongselik_named_lock(const vongselik_state *state, uint8_t
 {
     return vongselik_parts_named_lock(
         state->version, state->processors, state->jobs, state->objects, state->processor_of, state->may_read, state->may_write, state->active,
-        state->unlocked, state->sleeping, state->readers, state->writers, state->certified, state->request, rank, holder, object);
+        state->unlocked, state->sleeping, state->holder, state->readers, state->writers, state->certified, state->request, rank, holder, object);
 }
 
 /* The ceiling of an object of the state's table that nobody is declared to lock in that way: one past the last rank. */
@@ -305,7 +310,8 @@ static inline uint8_t vongselik_ceilings(const vongselik_state *state, uint8_t o
 {
     return vongselik_parts_ceilings(
         state->version, state->processors, state->jobs, state->objects, state->processor_of, state->may_read, state->may_write, state->active,
-        state->unlocked, state->sleeping, state->readers, state->writers, state->certified, state->request, object, write_ceiling, absolute_ceiling);
+        state->unlocked, state->sleeping, state->holder, state->readers, state->writers, state->certified, state->request, object,
+        write_ceiling, absolute_ceiling);
 }
 
 /* Sets *rank to the job that the processor runs: its active job with the most urgent inherited rank among those that neither wait nor sleep; 0 if the
@@ -315,7 +321,7 @@ static inline uint8_t vongselik_running(const vongselik_state *state, uint8_t pr
 {
     return vongselik_parts_running(
         state->version, state->processors, state->jobs, state->objects, state->processor_of, state->may_read, state->may_write, state->active,
-        state->unlocked, state->sleeping, state->readers, state->writers, state->certified, state->request, processor, rank);
+        state->unlocked, state->sleeping, state->holder, state->readers, state->writers, state->certified, state->request, processor, rank);
 }
 
 /* ---- The state page */
@@ -331,7 +337,7 @@ static inline uint8_t vongselik_page(const vongselik_state *state, uint8_t *buff
     uint8_t none = 0;
     return vongselik_parts_page(
         state->version, state->processors, state->jobs, state->objects, state->processor_of, state->may_read, state->may_write, state->active,
-        state->unlocked, state->sleeping, state->readers, state->writers, state->certified, state->request, size ? buffer : &none, size, length);
+        state->unlocked, state->sleeping, state->holder, state->readers, state->writers, state->certified, state->request, size ? buffer : &none, size, length);
 }
 
 /* ---- A test load */
@@ -349,7 +355,8 @@ static inline uint8_t vongselik_make_events(const vongselik_state *state, uint32
     uint8_t none = 0;
     return vongselik_parts_make_events(
         state->version, state->processors, state->jobs, state->objects, state->processor_of, state->may_read, state->may_write, state->active,
-        state->unlocked, state->sleeping, state->readers, state->writers, state->certified, state->request, seed, count, size ? buffer : &none, size);
+        state->unlocked, state->sleeping, state->holder, state->readers, state->writers, state->certified, state->request, seed, count,
+        size ? buffer : &none, size);
 }
 
 #ifdef __cplusplus

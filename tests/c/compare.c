@@ -41,6 +41,7 @@ static void compare_names(void)
     for (i = 0; i <= 27; i++) check(refusals[i] == i, "a refusal's number");
     check(VONGSELIK_MOST_JOBS == 64 && VONGSELIK_MOST_OBJECTS == 128 && VONGSELIK_MOST_PROCESSORS == 8, "a limit");
     check(VONGSELIK_LONGEST_TABLE == 10 + 64 + 3 * 8192 && VONGSELIK_LONGEST_PAGE == 64 * 21, "a limit");
+    check(sizeof(vongselik_state) == 4336, "the length of a state");
 }
 
 /* Nobody's ceiling by the number of jobs in a state. */
@@ -364,8 +365,8 @@ static void compare_cut(const list *l, size_t size, size_t room)
         answered = vongselik_events(&s, events, answers, room);
     else
         answered = vongselik_parts_events(
-            s.version, s.processors, s.jobs, s.objects, s.processor_of, s.may_read, s.may_write, &s.active, &s.unlocked, &s.sleeping, s.readers,
-            s.writers, s.certified, s.request, events, size, answers, room);
+            s.version, s.processors, s.jobs, s.objects, s.processor_of, s.may_read, s.may_write, &s.active, &s.unlocked, &s.sleeping, &s.holder,
+            s.readers, s.writers, s.certified, s.request, events, size, answers, room);
     check(
         answered == count && !memcmp(answers, expected, sizeof answers) && !memcmp(&s, &l->states[count], sizeof s)
             && !memcmp(events, l->events, sizeof events),

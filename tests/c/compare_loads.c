@@ -114,6 +114,7 @@ static vongselik_state idle(const vongselik_state *s)
 {
     vongselik_state other = *s;
     other.active = other.unlocked = other.sleeping = 0;
+    other.holder = 0;
     memset(other.readers, 0, sizeof other.readers);
     memset(other.writers, 0, sizeof other.writers);
     memset(other.certified, 0, sizeof other.certified);

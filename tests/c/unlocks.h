@@ -20,7 +20,7 @@ void send_answered(vongselik_state *s, int kind, int rank, int object, int answe
 /* Every job is started, the holder has its locks, and so many jobs wait. */
 void prepare(vongselik_state *s, layout l, int waiting);
 
-/* So many unlocks. After each, what it changed is put back. */
+/* So many unlocks. After each, what it changed is put back; the carried rank stays the holder's, which keeps the stopping lock. */
 void unlock_often(vongselik_state *s, layout l, int times);
 
 /* The processor time so far in seconds: what others do on the machine does not count. */
