@@ -1,4 +1,4 @@
-/* The rule of document 01, with CR 1, CR 2, CR 4, CR 5, CR 6 and CR 8 of document 02, written a second time: see model.h. */
+/* The rule of document 01, with CR 1, CR 2, CR 4, CR 5, CR 6, CR 8 and CR 9 of document 02, written a second time: see model.h. */
 #include "model.h"
 
 #include <stdio.h>
@@ -29,6 +29,7 @@ void model_from(model *m, const vongselik_state *s)
     m->processors = s->processors;
     m->jobs = s->jobs;
     m->objects = s->objects;
+    m->holder = s->holder;
     spread(m->active, s->active);
     spread(m->unlocked, s->unlocked);
     spread(m->sleeping, s->sleeping);
@@ -102,6 +103,39 @@ static int absolute_ceiling(const model *m, int object)
     return r;
 }
 
+/* The mode of the lock that the job has on the object, 0 if it has none. */
+static int held_mode(const model *m, int rank, int object)
+{
+    if (m->writes[object][rank]) return m->certified[object] ? CERTIFY : WRITE;
+    return m->reads[object][rank] ? READ : 0;
+}
+
+/* What a lock of this mode weighs. */
+static int weight_of(const model *m, int mode, int holder, int object)
+{
+    int ceiling = write_ceiling(m, object);
+    if (mode == READ) return ceiling < holder ? ceiling : holder;
+    return mode == WRITE && m->version == 2 ? ceiling : absolute_ceiling(m, object);
+}
+
+/* Whether the job holds any lock. */
+static int holds(const model *m, int rank)
+{
+    int o;
+    for (o = 1; o <= m->objects; o++)
+        if (held_mode(m, rank, o)) return 1;
+    return 0;
+}
+
+/* The most urgent job that holds a lock, 0 if none does: worked out from all locks. */
+static int most_urgent_holder(const model *m)
+{
+    int r;
+    for (r = 1; r <= m->jobs; r++)
+        if (holds(m, r)) return r;
+    return 0;
+}
+
 /* ---- Well formed */
 
 static int job_fits(const model *m, int r)
@@ -139,7 +173,7 @@ static int object_fits(const model *m, int o)
     return locks_fit(m->version, read_locks, write_locks, m->certified[o]);
 }
 
-int model_well_formed(const model *m)
+int model_fits(const model *m)
 {
     int i;
     if (m->version != 1 && m->version != 2) return 0;
@@ -151,27 +185,44 @@ int model_well_formed(const model *m)
     return 1;
 }
 
+int model_carries_truth(const model *m)
+{
+    return m->holder == most_urgent_holder(m);
+}
+
+/* Whether some holder more urgent than this one is not more urgent than the weight, which this one holds. */
+static int outweighs(int weight, const char *is_holder, int rank)
+{
+    int r;
+    for (r = 1; r < rank; r++)
+        if (is_holder[r] && !(r < weight)) return 1;
+    return 0;
+}
+
+int model_disorder(const model *m)
+{
+    char is_holder[65];
+    int r, o;
+    for (r = 1; r <= m->jobs; r++) is_holder[r] = (char)holds(m, r);
+    for (r = 1; r <= m->jobs; r++)
+        for (o = 1; o <= m->objects; o++) {
+            int mode = held_mode(m, r, o);
+            if (mode && outweighs(weight_of(m, mode, r, o), is_holder, r)) return mode;
+        }
+    return 0;
+}
+
+int model_well_formed(const model *m)
+{
+    return model_fits(m) && model_carries_truth(m) && !model_disorder(m);
+}
+
 /* ---- Granting, naming, waking */
 
 /* A lock that is held: its mode, what it weighs, by whom and on what. */
 typedef struct {
     int weight, holder, object, mode;
 } lock;
-
-/* The mode of the lock that the job has on the object, 0 if it has none. */
-static int held_mode(const model *m, int rank, int object)
-{
-    if (m->writes[object][rank]) return m->certified[object] ? CERTIFY : WRITE;
-    return m->reads[object][rank] ? READ : 0;
-}
-
-/* What a lock of this mode weighs. */
-static int weight_of(const model *m, int mode, int holder, int object)
-{
-    int ceiling = write_ceiling(m, object);
-    if (mode == READ) return ceiling < holder ? ceiling : holder;
-    return mode == WRITE && m->version == 2 ? ceiling : absolute_ceiling(m, object);
-}
 
 /* Of the locks of other jobs the one that a waiting job names: the most urgent weight, then the lowest rank, then the lowest object. */
 static lock named(const model *m, int rank)
@@ -304,15 +355,10 @@ static void end_run(model *m, int rank)
     }
 }
 
-vongselik_answer model_event(model *m, int kind, int rank, int object)
+/* An event that is not refused, but for the carried rank. */
+static vongselik_answer perform(model *m, int kind, int rank, int object)
 {
     vongselik_answer a = {VONGSELIK_DONE, 0, 0, 0, 0, 0};
-    int refusal = event_refusal(m, kind, rank, object);
-    if (refusal) {
-        a.answer = VONGSELIK_REFUSED;
-        a.refusal = (uint8_t)refusal;
-        return a;
-    }
     if (asked_mode(kind)) return request(m, asked_mode(kind), rank, object);
     switch (kind) {
     case VONGSELIK_START: m->active[rank] = 1; return a;
@@ -322,6 +368,19 @@ vongselik_answer model_event(model *m, int kind, int rank, int object)
     default: end_run(m, rank); break;
     }
     a.woken = (uint8_t)wake(m);
+    return a;
+}
+
+vongselik_answer model_event(model *m, int kind, int rank, int object)
+{
+    vongselik_answer a = {VONGSELIK_REFUSED, 0, 0, 0, 0, 0};
+    int refusal = event_refusal(m, kind, rank, object);
+    if (refusal) {
+        a.refusal = (uint8_t)refusal;
+        return a;
+    }
+    a = perform(m, kind, rank, object);
+    m->holder = most_urgent_holder(m);
     return a;
 }
 

@@ -1,5 +1,5 @@
-/* The rule of document 01, with CR 1, CR 2, CR 4, CR 5, CR 6 and CR 8 of document 02, written a second time, as plainly as possible: sets are tables of
- * flags, loops go over every job and object. */
+/* The rule of document 01, with CR 1, CR 2, CR 4, CR 5, CR 6, CR 8 and CR 9 of document 02, written a second time, as plainly as possible: sets are tables
+ * of flags, loops go over every job and object. */
 #ifndef MODEL_H
 #define MODEL_H
 
@@ -17,6 +17,7 @@ typedef struct model {
     char reads[129][65], writes[129][65];
     char certified[129]; /* whether the write lock on the object is a certify lock */
     int wants[65], wanted_object[65]; /* wants: 0 nothing, else the mode of the request, which may be a wrong one in a state that was handed in */
+    int holder; /* the rank that the state carries: the most urgent lock holder, 0 if none; it may be a wrong one in a state that was handed in */
 } model;
 
 /* The state in a C struct, spread out. */
@@ -25,8 +26,16 @@ void model_from(model *m, const vongselik_state *s);
 /* Whether both say the same. */
 int model_same(const model *m, const vongselik_state *s);
 
-/* Whether the state is well formed: refusal 8. */
+/* Whether the state is well formed: refusal 8. It is if it fits by the rules but those of CR 9, carries the true rank, and has its holders in order. */
 int model_well_formed(const model *m);
+int model_fits(const model *m);
+
+/* Of a state that fits: whether it carries the true rank. */
+int model_carries_truth(const model *m);
+
+/* Of a state that fits: 0 if its holders are in order, that is, of two the more urgent one is more urgent than every weight that the other holds. Else the
+ * mode of the first lock, by holder and object, that breaks this: 1 read, 2 write, 3 certify. */
+int model_disorder(const model *m);
 
 vongselik_answer model_event(model *m, int kind, int rank, int object);
 
