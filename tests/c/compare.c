@@ -318,6 +318,15 @@ static void compare_handed_in(const vongselik_state *handed)
     if (below(4) == 0) compare_writing(&s, &m, below(3) ? (size_t)LONGEST : (size_t)below(400));
 }
 
+/* Locks strewn over the table of the state, handed in: as they are, or with a change of the carried rank or of the order of the holders. */
+static void compare_other_holders(const vongselik_state *reached)
+{
+    vongselik_state s = *reached;
+    if (below(4)) strew(&s);
+    if (below(2)) mutate_holders(&s);
+    compare_handed_in(&s);
+}
+
 /* ---- Lists of events */
 
 /* How many events a list has, and the most room for answers to it. */
@@ -403,12 +412,11 @@ static void compare_list(const vongselik_state *handed)
 static void compare_lists(const vongselik_state *reached)
 {
     vongselik_state s = *reached;
-    int k;
     compare_list(&s);
     strew(&s);
     compare_list(&s);
     if (below(2)) s = *reached;
-    for (k = 1 + below(3); k > 0; k--) mutate(&s);
+    mutate(&s, 1 + below(3));
     compare_list(&s);
     fill_with_noise(&s);
     compare_list(&s);
@@ -422,7 +430,7 @@ static void compare_table(int events)
     vongselik_state s, other;
     model m;
     size_t used;
-    int i, k;
+    int i;
     compare_tables(&s, bytes, &used);
     compare_last_object(&s);
     model_from(&m, &s);
@@ -432,11 +440,12 @@ static void compare_table(int events)
         event e = any_event(&s);
         note_event(e, compare_event(&s, &m, e));
         if (i % 4 == 0) compare_questions(&s, &m, i % 16 == 0);
+        if (i % 12 == 3) compare_other_holders(&s);
         if (i % 6) continue;
         compare_page(&s, &m);
         other = s;
         if (below(2)) strew(&other);
-        for (k = below(4); k > 0; k--) mutate(&other);
+        mutate(&other, below(4));
         compare_handed_in(&other);
     }
     check_arrows();

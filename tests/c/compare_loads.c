@@ -184,12 +184,11 @@ static void compare_loads_on(const vongselik_state *s)
 void compare_loads(const vongselik_state *reached)
 {
     vongselik_state s = *reached;
-    int k;
     compare_loads_on(&s);
     strew(&s);
     compare_loads_on(&s);
     if (below(2)) s = *reached;
-    for (k = 1 + below(3); k > 0; k--) mutate(&s);
+    mutate(&s, 1 + below(3));
     compare_loads_on(&s);
     fill_with_noise(&s);
     compare_loads_on(&s);

@@ -34,7 +34,7 @@ static uint64_t any_word(void)
 size_t make_table(uint8_t *b)
 {
     static const int most_objects[] = {3, 8, 20, 128};
-    int size = below(4), r, o, density = 5 + below(90), only_read;
+    int size = below(4), r, o, density = 5 + below(90), writing = below(3) ? 1 : 8, only_read;
     size_t n, count = 0;
     memcpy(b, "JOB\0", 4);
     b[4] = (uint8_t)(1 + below(2));
@@ -49,7 +49,7 @@ size_t make_table(uint8_t *b)
             if (below(100) < density) {
                 b[n++] = (uint8_t)r;
                 b[n++] = (uint8_t)o;
-                b[n++] = (uint8_t)(r <= only_read ? 1 : 1 + below(3));
+                b[n++] = (uint8_t)(r <= only_read || below(writing) ? 1 : 1 + below(3)); /* in a third of the tables one entry in eight may write */
                 count++;
             }
     b[8 + b[6]] = (uint8_t)(count / 256);
@@ -174,6 +174,65 @@ event any_event(const vongselik_state *s)
     return e;
 }
 
+/* ---- Holders */
+
+/* The jobs that hold locks. */
+static uint64_t lock_holders(const vongselik_state *s)
+{
+    uint64_t set = 0;
+    int o;
+    for (o = 0; o < 128; o++) set |= s->readers[o] | s->writers[o];
+    return set;
+}
+
+/* The most urgent rank of the set, 65 if it is empty. */
+static int first_of(uint64_t set)
+{
+    int rank = 1;
+    while (rank <= 64 && !(set >> (rank - 1) & 1)) rank++;
+    return rank;
+}
+
+/* The true rank to carry. */
+static void carry_truth(vongselik_state *s)
+{
+    s->holder = (uint8_t)(first_of(lock_holders(s)) % 65);
+}
+
+/* What the lock of the rank on the object at index o weighs. */
+static int weight_at(const vongselik_state *s, int rank, int o)
+{
+    int write = first_of(s->may_write[o]), certified = (int)(s->certified[o / 64] >> o % 64 & 1);
+    if (!(s->writers[o] >> (rank - 1) & 1)) return write < rank ? write : rank;
+    return s->version == 2 && !certified ? write : first_of(s->may_read[o] | s->may_write[o]);
+}
+
+static void take_certify(vongselik_state *s, int o)
+{
+    s->certified[o / 64] &= ~((uint64_t)1 << o % 64);
+}
+
+/* Takes the rank's lock on the object away; or its mark alone, if the lock is then lighter than the bound. */
+static void take_lock(vongselik_state *s, int rank, int o, int bound)
+{
+    uint64_t bit = (uint64_t)1 << (rank - 1);
+    if (s->writers[o] & bit) take_certify(s, o);
+    if (s->writers[o] & bit && weight_at(s, rank, o) > bound) return;
+    s->readers[o] &= ~bit;
+    s->writers[o] &= ~bit;
+}
+
+/* Puts the holders in order: from the most urgent on, takes away all locks that weigh as much as the holder before, or more. */
+static void put_in_order(vongselik_state *s)
+{
+    int before = 0, rank, o;
+    for (rank = 1; rank <= s->jobs; rank++) {
+        for (o = 0; o < s->objects; o++)
+            if ((s->readers[o] | s->writers[o]) >> (rank - 1) & 1 && weight_at(s, rank, o) <= before) take_lock(s, rank, o, before);
+        if (lock_holders(s) >> (rank - 1) & 1) before = rank;
+    }
+}
+
 /* ---- States */
 
 /* Locks of these jobs on the object at index o: of a writer or of readers; on version 2 of both, or of a writer that has certified it. */
@@ -219,6 +278,8 @@ void strew(vongselik_state *s)
     memset(s->certified, 0, sizeof s->certified);
     memset(s->request, 0, sizeof s->request);
     for (o = below(spaces); o < s->objects; o += 1 + below(spaces)) strew_locks(s, o, holders);
+    if (below(4)) put_in_order(s);
+    carry_truth(s);
     for (r = 0; r < s->jobs; r++)
         if ((s->active & ~s->unlocked) >> r & 1) strew_request(s, r);
     s->sleeping = below(2) ? 0 : any_word() & s->active & ~waiting(s);
@@ -244,11 +305,73 @@ static int index_of_job(const vongselik_state *s, uint64_t set)
     return first;
 }
 
-void mutate(vongselik_state *s)
+/* Some rank of the set, 0 if it is empty. */
+static int rank_in(uint64_t set)
+{
+    int first = below(64), i;
+    for (i = first; i < first + 64; i++)
+        if (set >> i % 64 & 1) return i % 64 + 1;
+    return 0;
+}
+
+/* A wrong rank to carry, most often: none, a holder that is not the most urgent one, a rank that holds nothing, or one above the job count. */
+static int wrong_holder(const vongselik_state *s)
+{
+    uint64_t holders = lock_holders(s), in_table = s->jobs < 64 ? ((uint64_t)1 << s->jobs) - 1 : ~(uint64_t)0;
+    switch (below(8)) {
+    case 0: return 0;
+    case 1: return s->jobs + 1 + below(3);
+    case 2: return below(256);
+    case 3:
+    case 4: return rank_in(in_table & ~holders);
+    default: return rank_in(holders & (holders - 1));
+    }
+}
+
+/* A lock more on some object, of an active job that may have it beside the others there, and the true rank to carry. It breaks the order of the holders more
+ * often than not. */
+static void add_lock(vongselik_state *s)
+{
+    int o = below(s->objects && s->objects <= 128 ? s->objects : 128), mode = 1 + below(2), rank;
+    uint64_t others = s->version == 2 ? 0 : s->readers[o], right = mode == 1 ? s->may_read[o] : s->may_write[o];
+    if (s->certified[o / 64] >> o % 64 & 1 || (s->writers[o] && (mode == 2 || s->version != 2)) || (mode == 2 && others)) return;
+    rank = rank_in(s->active & right & ~s->readers[o] & ~s->writers[o]);
+    if (!rank || s->request[rank - 1]) return;
+    if (mode == 1) s->readers[o] |= (uint64_t)1 << (rank - 1);
+    else s->writers[o] |= (uint64_t)1 << (rank - 1);
+    carry_truth(s);
+}
+
+/* Certifies some write lock of version 2 that stands alone, if there is one. It may break the order of the holders. */
+static void certify_lock(vongselik_state *s)
+{
+    int first = below(128), i;
+    for (i = first; i < first + 128 && s->version == 2; i++) {
+        int o = i % 128;
+        if (!uncertified(s, o) || s->readers[o]) continue;
+        s->certified[o / 64] |= (uint64_t)1 << o % 64;
+        return;
+    }
+}
+
+void mutate_holders(vongselik_state *s)
+{
+    int times = 1 + below(4);
+    if (below(2)) {
+        s->holder = (uint8_t)wrong_holder(s);
+        return;
+    }
+    for (; times > 0; times--) {
+        if (below(2)) add_lock(s);
+        else certify_lock(s);
+    }
+}
+
+static void mutate_once(vongselik_state *s)
 {
     int o = index_of_object(s), r = index_of_job(s, below(3) ? s->active & (s->may_read[o] | s->may_write[o]) : s->writers[o]);
     uint64_t bit = (uint64_t)1 << r;
-    switch (below(17)) {
+    switch (below(22)) {
     case 0: s->processors = (uint8_t)(below(2) ? below(12) : below(256)); break;
     case 1: s->jobs = (uint8_t)(below(2) ? s->jobs + 1 - 2 * below(2) : below(256)); break;
     case 2: s->objects = (uint8_t)(below(2) ? s->objects + 1 - 2 * below(2) : below(256)); break;
@@ -265,8 +388,16 @@ void mutate(vongselik_state *s)
     case 13: s->certified[o / 64] ^= (uint64_t)1 << o % 64; break;
     case 14: s->sleeping ^= bit; break;
     case 15: s->sleeping ^= (uint64_t)1 << index_of_job(s, below(2) ? waiting(s) : ~s->active); break;
-    default: s->request[r] = 0; break;
+    case 16: s->request[r] = 0; break;
+    default: mutate_holders(s); break;
     }
+}
+
+void mutate(vongselik_state *s, int times)
+{
+    int i;
+    for (i = 0; i < times; i++) mutate_once(s);
+    if (times && below(2)) carry_truth(s);
 }
 
 void fill_with_noise(vongselik_state *s)

@@ -33,11 +33,17 @@ size_t spoil_table(uint8_t *bytes, size_t size);
  * write-locked, and a wake of a job that sleeps. */
 event any_event(const vongselik_state *s);
 
-/* Locks, requests and sleepers strewn over the table, by and large well formed, though no events lead there. */
+/* Locks, requests and sleepers strewn over the table, by and large well formed, though no events lead there; most often with the holders in order, many of
+ * them at times. The carried rank is true. */
 void strew(vongselik_state *s);
 
-/* One change somewhere in a state, which may then no longer be well formed. */
-void mutate(vongselik_state *s);
+/* So many changes somewhere in a state, which may then no longer be well formed: changes by mutate_holders among them. In half of the changed states the
+ * carried rank is true in the end. */
+void mutate(vongselik_state *s, int times);
+
+/* Another rank that the state carries, wrong more often than not; or a few locks more, or certified, and the true rank: that breaks the order of the holders
+ * more often than not, and no other rule. */
+void mutate_holders(vongselik_state *s);
 
 /* Nothing but random numbers in the struct. */
 void fill_with_noise(vongselik_state *s);

@@ -179,13 +179,13 @@ static void run_list(void)
 static void run_states(void)
 {
     vongselik_state reached;
-    int i, k;
+    int i;
     for (i = 0; i < EVENTS; i++) {
         run_state();
         if (i % 6) continue;
         reached = state;
         if (below(2)) strew(&state);
-        for (k = below(4); k > 0; k--) mutate(&state);
+        mutate(&state, below(4));
         run_state();
         run_list();
         state = reached;
