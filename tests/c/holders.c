@@ -91,14 +91,45 @@ static void count_carried(const vongselik_state *before, event e, vongselik_answ
     if (done && (e.kind == VONGSELIK_FINISH || e.kind == VONGSELIK_ABANDON)) count_release(ends[version], before, e.rank, a.woken, holder);
 }
 
+/* The job becomes idle and loses its locks; nobody is woken. */
+static void take_out(model *m, int rank)
+{
+    int o;
+    m->active[rank] = m->unlocked[rank] = m->sleeping[rank] = 0;
+    m->wants[rank] = m->wanted_object[rank] = 0;
+    for (o = 1; o <= 128; o++) {
+        if (m->writes[o][rank]) m->certified[o] = 0;
+        m->reads[o][rank] = m->writes[o][rank] = 0;
+    }
+}
+
+/* The model's answer to a request without all jobs but the requester and the carried rank. */
+static vongselik_answer decided_by_one(const vongselik_state *before, event e)
+{
+    model m;
+    int r;
+    model_from(&m, before);
+    for (r = 1; r <= m.jobs; r++)
+        if (r != e.rank && r != m.holder) take_out(&m, r);
+    return model_event(&m, e.kind, e.rank, e.object);
+}
+
+/* Checks the answer to a request: what the requester's rank and the locks of the carried one alone decide. */
+static void check_request(const vongselik_state *before, event e, vongselik_answer a)
+{
+    vongselik_answer decided = decided_by_one(before, e);
+    check(!memcmp(&a, &decided, sizeof a), "the locks of the carried rank alone decide a request");
+    check(a.answer == VONGSELIK_WAITS ? a.holder == before->holder : a.holder == 0, "a request that waits names the carried rank");
+    if (e.rank == before->holder) check(a.answer == VONGSELIK_GRANTED, "a request of the carried rank is granted");
+}
+
 void check_holder(const vongselik_state *before, event e, vongselik_answer a, const vongselik_state *after)
 {
     if (a.answer == VONGSELIK_REFUSED) return;
     check(after->holder == most_urgent(holders_of(after)), "after an event the most urgent holder is carried");
     if (a.answer == VONGSELIK_GRANTED) check(after->holder == e.rank, "whoever is granted a lock is carried");
-    if (a.answer == VONGSELIK_WAITS) check(e.rank != before->holder, "a request of the carried rank is granted");
-    if (a.answer == VONGSELIK_WAITS) check(a.holder == before->holder, "a request that waits names the carried rank");
-    if (a.answer == VONGSELIK_DONE && a.woken) check(after->holder == a.woken, "a woken job is carried");
+    if (a.woken) check(after->holder == a.woken, "a woken job is carried");
+    if (a.answer != VONGSELIK_DONE) check_request(before, e, a);
     count_carried(before, e, a, after->holder);
 }
 

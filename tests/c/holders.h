@@ -6,8 +6,9 @@
 #include "model.h"
 #include "vongselik.h"
 
-/* Checks an answer of the library and the state that it left: a request of the carried rank that is not refused is granted, a wait names the carried rank, and
- * the state then carries the most urgent of all holders. Counts how the carried rank changed or stayed. */
+/* Checks an answer of the library that is no refusal, and the state that it left: a request of the carried rank is granted, that of another is answered by what
+ * the locks of the carried rank alone decide, and names it if it waits; the state then carries the most urgent of all holders. Counts how the carried rank
+ * changed or stayed. */
 void check_holder(const vongselik_state *before, event e, vongselik_answer a, const vongselik_state *after);
 
 /* Checks whom the library says that the waiting jobs of a well-formed state name: the carried rank; nobody can be named only if no events led there. */

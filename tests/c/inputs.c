@@ -207,28 +207,23 @@ static int weight_at(const vongselik_state *s, int rank, int o)
     return s->version == 2 && !certified ? write : first_of(s->may_read[o] | s->may_write[o]);
 }
 
-static void take_certify(vongselik_state *s, int o)
-{
-    s->certified[o / 64] &= ~((uint64_t)1 << o % 64);
-}
-
-/* Takes the rank's lock on the object away; or its mark alone, if the lock is then lighter than the bound. */
-static void take_lock(vongselik_state *s, int rank, int o, int bound)
+/* Takes the rank's lock on the object away; of a certify lock the mark alone, if the write lock may stay behind the holder before. */
+static void take_lock(vongselik_state *s, int rank, int o, int before)
 {
     uint64_t bit = (uint64_t)1 << (rank - 1);
-    if (s->writers[o] & bit) take_certify(s, o);
-    if (s->writers[o] & bit && weight_at(s, rank, o) > bound) return;
+    if (s->writers[o] & bit) s->certified[o / 64] &= ~((uint64_t)1 << o % 64);
+    if (s->writers[o] & bit && before < weight_at(s, rank, o)) return;
     s->readers[o] &= ~bit;
     s->writers[o] &= ~bit;
 }
 
-/* Puts the holders in order: from the most urgent on, takes away all locks that weigh as much as the holder before, or more. */
+/* Puts the holders in order: from the most urgent on, takes away each lock than whose weight the holder before is not more urgent. */
 static void put_in_order(vongselik_state *s)
 {
     int before = 0, rank, o;
     for (rank = 1; rank <= s->jobs; rank++) {
         for (o = 0; o < s->objects; o++)
-            if ((s->readers[o] | s->writers[o]) >> (rank - 1) & 1 && weight_at(s, rank, o) <= before) take_lock(s, rank, o, before);
+            if ((s->readers[o] | s->writers[o]) >> (rank - 1) & 1 && before >= weight_at(s, rank, o)) take_lock(s, rank, o, before);
         if (lock_holders(s) >> (rank - 1) & 1) before = rank;
     }
 }
@@ -367,6 +362,7 @@ void mutate_holders(vongselik_state *s)
     }
 }
 
+/* One change somewhere in a state. */
 static void mutate_once(vongselik_state *s)
 {
     int o = index_of_object(s), r = index_of_job(s, below(3) ? s->active & (s->may_read[o] | s->may_write[o]) : s->writers[o]);
