@@ -6,13 +6,13 @@ use mathlib.Core.Logic.{_≢_, _⊎_, inl, inr}
 use mathlib.Core.Bool.{Bool, true, false}
 use mathlib.Core.List.{List}
 use Prim.Native.Nat.{ℕ, _+_, _-_, _≤_, _<_, min}
-use native.Mathlib.Nat.{le-antisymm}
+use native.Mathlib.Nat.{le-antisymm, add-zero}
 use native.Mathlib.Omega.{arith}
 use native.Mathlib.Decide.{ℕ-discrete, decLe}
 use lib.ListN.{length, set}
 use Rattle.basics.specs.Choice.{if_then_else_, clash}
 use Rattle.basics.specs.Arrays.{at, put, at-put-same, at-put-other, put-index}
-use Rattle.basics.specs.Loops.{least, least-top, least-le, le-least}
+use Rattle.basics.specs.Loops.{oneIf, least, least-top, least-le, le-least}
 use Rattle.ranks.specs.Ranks.{member, union, unions}
 use Rattle.ranks.specs.RankLaws.{member-zero}
 use Rattle.ranks.specs.UnionLaws.{union-left, union-right, unions-both, in-unions}
@@ -86,7 +86,7 @@ module _ (readers writers : List ℕ) (h : ℕ) where
         (omega (arith, w .0, w .1), subst (λ k. LocksTo objects (done + k) list count) (sym (w .0)) (locks-skip done blockSize count list (w .2) L))
 
     -- one that h holds is put behind the others
-    pub locks-put : (done count : ℕ) (list : List ℕ) → count < length list → done < objects → LocksTo objects done list count
+    locks-put : (done count : ℕ) (list : List ℕ) → count < length list → done < objects → LocksTo objects done list count
         → LocksTo objects (done + 1) (set list count (done + 1)) (count + 1)
     locks-put done count list room less L =
         subst (λ next. LocksTo objects (done + 1) next (count + 1)) stored (record { inside = inside; all = all })
@@ -114,6 +114,31 @@ module _ (readers writers : List ℕ) (h : ℕ) where
           | yes l ↦ (let w = L .all o a l c e in (w .0, w .1, omega (arith, w .2), before (w .0) (w .2) ∙ w .3))
           | no l ↦ (count + 1, omega arith, omega arith, last ∙ omega arith)
         ]
+
+  module _ (objects : ℕ) where
+    -- an object that h does not hold may stand behind the others: it is not counted
+    locks-over : (done count : ℕ) (list : List ℕ) (v : ℕ) → heldBy (done + 1) ≡ false → LocksTo objects done list count
+        → LocksTo objects (done + 1) (set list count v) count
+    locks-over done count list v free L = record { inside = λ i a b. rw (same i b) (L .inside i a b); all = all }
+      where
+        stored : put list (count + 1) v ≡ set list count v
+        stored = let back : count + 1 - 1 ≡ count = omega arith in put-index list (count + 1) v (omega arith) ∙ ap (λ k. set list k v) back
+
+        same : (i : ℕ) → i ≤ count → at (set list count v) i ≡ at list i
+        same i l = ap (λ xs. at xs i) (sym stored) ∙ at-put-other list (count + 1) v i (λ e. omega arith)
+
+        all : (o : ℕ) → 1 ≤ o → o ≤ done + 1 → o ≤ objects → heldBy o ≡ true → (i : ℕ) × (1 ≤ i) × (i ≤ count) × (at (set list count v) i ≡ o)
+        all o a b c e = elim (decLe o done) [
+          | yes l ↦ (let w = L .all o a l c e in (w .0, w .1, w .2, same (w .0) (w .2) ∙ w .3))
+          | no l ↦ (let here : done + 1 ≡ o = omega arith in absurd (clash e (subst (λ q. heldBy q ≡ false) here free)))
+        ]
+
+    -- so one more is put behind the others, and counted where h holds it
+    pub locks-next : (done count : ℕ) (list : List ℕ) (held : Bool) → held ≡ heldBy (done + 1) → count < length list → done < objects
+        → LocksTo objects done list count → LocksTo objects (done + 1) (set list count (done + 1)) (count + oneIf held)
+    locks-next done count list true e room less L = locks-put objects done count list room less L
+    locks-next done count list false e room less L =
+        subst (LocksTo objects (done + 1) (set list count (done + 1))) (sym (add-zero count)) (locks-over done count list (done + 1) (sym e) L)
 
 -- nobody, rank 0, has none
 pub nobody-locks : (readers writers : List ℕ) (h objects : ℕ) (list : List ℕ) → h ≡ 0 → LocksOf readers writers h objects list 0

@@ -5,6 +5,7 @@ ghost use mathlib.Core.Bool.{false, _||_};
 ghost use Prim.Native.Nat.{ℕ, _+_, _≤_, _<_};
 ghost use lib.Dec.{eqb};
 ghost use Rattle.basics.specs.Choice.{if_then_else_};
+ghost use Rattle.basics.specs.Loops.{oneIf};
 ghost use Rattle.state.specs.State.{mostJobs, mostObjects, marked};
 ghost use Rattle.state.specs.Holders.{heldState};
 ghost use Rattle.weights.specs.Keys.{lockKey, noKey};
@@ -41,6 +42,13 @@ fn passed_over<'a>(readers: Sets<'a>, writers: Sets<'a>, from: usize, rank: u8) 
     if ranks::contains(held, rank) { 0 } else { 8 }
 }
 
+// 1 where the test holds, else 0.
+fn one_if(test: bool) -> usize
+    ensures { λ r. ⌜ (r ≡ oneIf test) × (r ≤ 1) ⌝ }
+{
+    if test { 1 } else { 0 }
+}
+
 // The objects of the table that the rank has locked; none where the rank is 0, nobody.
 pub fn locked_by<'a>(counts: Counts, readers: Sets<'a>, writers: Sets<'a>, rank: u8) -> Locked
     requires { ⌜ (counts .objects ≤ mostObjects) × (rank ≤ mostJobs) ⌝ }
@@ -58,10 +66,9 @@ pub fn locked_by<'a>(counts: Counts, readers: Sets<'a>, writers: Sets<'a>, rank:
         if free != 0 {
             i += free;
         } else {
-            if ranks::contains(ranks::union(readers[i], writers[i]), rank) {
-                objects[count] = (i + 1) as u8;
-                count += 1;
-            }
+            let held = ranks::contains(ranks::union(readers[i], writers[i]), rank);
+            objects[count] = (i + 1) as u8;
+            count += one_if(held);
             i += 1;
         }
     }

@@ -3,15 +3,13 @@
 -- Assumes nothing.
 use denote.Ref.{now}
 use mathlib.Core.Path.{_≡_, refl, sym, subst, ap, _∙_}
-use mathlib.Core.Logic.{inl, inr}
-use mathlib.Core.Bool.{true, false}
 use Prim.Native.Nat.{ℕ, _+_, _-_, _≤_}
 use native.Mathlib.Omega.{arith}
 use lib.ListN.{length, set, length-set}
 use Rattle.basics.specs.Arrays.{at-next}
 use Rattle.ranks.specs.Ranks.{member, union}
 use Rattle.state.specs.State.{mostObjects}
-use Rattle.one_holder.specs.Gathering.{heldBy, LocksTo, LocksOf, passed-small, locks-none, locks-passed, locks-skip, locks-put, nobody-locks}
+use Rattle.one_holder.specs.Gathering.{heldBy, LocksTo, LocksOf, passed-small, locks-none, locks-passed, locks-next, nobody-locks}
 use borrow.Author.Needs.{needs}
 use Rattle.one_holder.proofs.locked_by.Statement.{statement}
 use Rattle.one_holder.proofs.locked_by.Tie as tie
@@ -77,8 +75,11 @@ cast-objects c = search needs
 array-write-objects : tie.Need-array-write-objects Inv-loop μ-loop
 array-write-objects c = search needs
 
+one-if-requires : tie.Need-one-if-requires Inv-loop μ-loop
+one-if-requires c κs = search needs
+
 add-count : tie.Need-add-count Inv-loop μ-loop
-add-count c = search needs
+add-count c = search (needs, c .one-if .ensures .1)
 
 add-i-2 : tie.Need-add-i-2 Inv-loop μ-loop
 add-i-2 c = search needs
@@ -94,27 +95,12 @@ loop-again-2 c =
     let i = c .before .before .before .before .before .before .before .before .loop .i in
     let inv = c .before .before .before .before .before .before .before .before .loop .inv in
     let held : c .before .contains .result ≡ heldBy rd wr (a .rank) (i + 1) = c .before .contains .ensures ∙ ap (λ (set : ℕ). member set (a .rank)) (c .before .before .union .ensures ∙ sym (λ p. union (at-next rd i p) (at-next wr i p))) in
-    let most = a .counts .objects in
-    let small : i + 1 ≤ mostObjects = omega (arith, c .before .before .before .before .before .before .before .loop-test .taken, c .before .before .before .before .before .before .before .before .before .before .before .pre) in
-    elim (c .if3 .came) [
-      | inl t ↦ (
-        small,
-        omega (arith, t .2, inv .1),
-        ap length (t .1) ∙ length-set (c .before .before .before .before .before .before .before .before .loop .objects) (c .before .before .before .before .before .before .before .before .loop .count) (i + 1) ∙ inv .2,
-        subst (λ list. LocksTo rd wr (a .rank) most (i + 1) list (c .if3 .count)) (sym (t .1))
-            (subst (LocksTo rd wr (a .rank) most (i + 1) (set (c .before .before .before .before .before .before .before .before .loop .objects) (c .before .before .before .before .before .before .before .before .loop .count) (i + 1))) (sym (t .2))
-            (locks-put rd wr (a .rank) most i (c .before .before .before .before .before .before .before .before .loop .count) (c .before .before .before .before .before .before .before .before .loop .objects) (omega (arith, inv .1, inv .2)) (omega (arith, c .before .before .before .before .before .before .before .loop-test .taken)) (inv .3))),
-      )
-      | inr t ↦ (
-        small,
-        omega (arith, t .2, inv .1),
-        ap length (t .1) ∙ inv .2,
-        subst (λ list. LocksTo rd wr (a .rank) most (i + 1) list (c .if3 .count)) (sym (t .1))
-            (subst (LocksTo rd wr (a .rank) most (i + 1) (c .before .before .before .before .before .before .before .before .loop .objects)) (sym (t .2))
-            (locks-skip rd wr (a .rank) most i 1 (c .before .before .before .before .before .before .before .before .loop .count) (c .before .before .before .before .before .before .before .before .loop .objects)
-            (λ k l h. let one : 1 ≡ k = omega arith in subst (λ (n : ℕ). heldBy rd wr (a .rank) (i + n) ≡ false) one (sym held ∙ t .0 .left)) (inv .3))),
-      )
-    ]
+    let next = locks-next rd wr (a .rank) (a .counts .objects) i (c .before .before .before .before .before .before .before .before .loop .count) (c .before .before .before .before .before .before .before .before .loop .objects) (c .before .contains .result) held (omega (arith, inv .1, inv .2)) (omega (arith, c .before .before .before .before .before .before .before .loop-test .taken)) (inv .3) in (
+      omega (arith, c .before .before .before .before .before .before .before .loop-test .taken, c .before .before .before .before .before .before .before .before .before .before .before .pre),
+      omega (arith, c .one-if .ensures .1, inv .1),
+      length-set (c .before .before .before .before .before .before .before .before .loop .objects) (c .before .before .before .before .before .before .before .before .loop .count) (i + 1) ∙ inv .2,
+      subst (λ (n : ℕ). LocksTo rd wr (a .rank) (a .counts .objects) (i + 1) (set (c .before .before .before .before .before .before .before .before .loop .objects) (c .before .before .before .before .before .before .before .before .loop .count) (i + 1)) (c .before .before .before .before .before .before .before .before .loop .count + n)) (sym (c .one-if .ensures .0)) next,
+    )
 
 returns : tie.Need-returns Inv-loop μ-loop
 returns c = nobody-locks (now (c .before .before .args .readers)) (now (c .before .before .args .writers)) (c .before .before .args .rank) (c .before .before .args .counts .objects) _ (c .if1 .taken)
@@ -150,6 +136,7 @@ locked-by-spec =
     add-objects
     cast-objects
     array-write-objects
+    one-if-requires
     add-count
     add-i-2
     loop-less-2
