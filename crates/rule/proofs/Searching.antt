@@ -4,19 +4,18 @@ use mathlib.Core.Path.{_≡_, refl, sym, ap, _∙_}
 use mathlib.Core.Logic.{_≢_}
 use mathlib.Core.Bool.{Bool, true, false, not, _&&_}
 use mathlib.Core.List.{List}
-use Prim.Native.Nat.{ℕ, suc, _+_, _*_, _/_, _≤_, _<_}
-use native.Mathlib.Numerals.{add-one}
+use Prim.Native.Nat.{ℕ, zero, suc, _+_, _-_, _*_, _/_, _≤_, _<_}
 use native.Mathlib.Omega.{arith}
-use lib.Dec.{eqb, ltb}
-use lib.ListN.{getD}
-use borrow.Author.Tests.{eqb-true, eqb-false, ne-eqb, eq-eqb, lt-ltb, le-ltb, ltb-true, ltb-false}
-use Rattle.basics.specs.Choice.{if_then_else_, _orElse_}
-use Rattle.basics.specs.Loops.{every, every-at, least, least-le, least-more, firstNonzero, first-nonzero-more, first-nonzero-keeps, all-zero-first}
-use Rattle.basics.specs.Arrays.{at, at-next}
+use native.Mathlib.Decide.{decLe, decLt}
+use lib.Dec.{eqb, ltb, leb}
+use borrow.Author.Tests.{eqb-true, eqb-false, ne-eqb, eq-eqb, lt-ltb, le-ltb, ltb-true, ltb-false, leb-true, leb-false}
+use Rattle.basics.specs.Choice.{if_then_else_}
+use Rattle.basics.specs.Loops.{every, every-at, least, least-le, least-more, firstNonzero, first-nonzero-none, first-nonzero-at, all-zero-first}
+use Rattle.basics.specs.Arrays.{at}
 use Rattle.ranks.specs.Ranks.{member}
 use Rattle.state.specs.declared.Counts.{Counts}
 use Rattle.state.specs.declared.State.{State}
-use Rattle.state.specs.State.{mostJobs, isWaiting}
+use Rattle.state.specs.State.{mostJobs, requestOf, isWaiting}
 use Rattle.state.specs.Weights.{weight}
 use Rattle.state.specs.Holders.{HolderFacts, heldState}
 use Rattle.weights.specs.Keys.{noKey, othersKey, objectKey, lowestKeyBy}
@@ -26,7 +25,7 @@ use Rattle.one_holder.specs.OneHolderLaws.{deciding}
 use Rattle.one_holder.specs.Gathering.{LocksOf, gathered-key}
 use Rattle.rule.specs.Granting.{passesBelow, passes, wakes, namedKeyOf, conflicts, reasonOf}
 use Rattle.rule.specs.Parts.{waitsState}
-use Rattle.rule.specs.WakeLaws.{notCounting}
+use Rattle.rule.specs.WakeLaws.{notCounting, allStopped, IdleTo}
 
 -- ---- the named key
 
@@ -58,6 +57,18 @@ module _ (version m o h p : ℕ) (none : Bool) (writers ceiling : ℕ) where
   else-ceiling e d = simp (e, d)
 
 -- ---- the search
+
+-- the rank that is tried next comes no earlier than j, and up to it nobody from j on is the holder
+pub all-stopped : (holder j jobs : ℕ) → j ≤ jobs
+    → (j ≤ allStopped holder j jobs) × (allStopped holder j jobs ≤ jobs) × ((i : ℕ) → j ≤ i → i ≤ allStopped holder j jobs → holder ≢ j → holder ≢ i)
+all-stopped holder j jobs l = go (ltb j holder) refl (leb holder jobs) refl
+  where
+    go : (a : Bool) → ltb j holder ≡ a → (b : Bool) → leb holder jobs ≡ b
+        → (j ≤ (if a && b then holder - 1 else jobs)) × ((if a && b then holder - 1 else jobs) ≤ jobs)
+        × ((i : ℕ) → j ≤ i → i ≤ (if a && b then holder - 1 else jobs) → holder ≢ j → holder ≢ i)
+    go true e true f = let a = ltb-true j holder e in let b = leb-true holder jobs f in (omega arith, omega arith, λ i p q d r. omega arith)
+    go true e false f = let b = leb-false holder jobs f in (omega arith, omega arith, λ i p q d r. omega arith)
+    go false e b f = let a = ltb-false j holder e in (omega arith, omega arith, λ i p q d r. d (omega arith))
 
 -- of so many locks of the holder, on the objects of a list, by the key on each: j is the holder, and all locks are passed, or it is more urgent than those passed
 pub record LetBy (own : ℕ → ℕ) (list : List ℕ) (holder count j done : ℕ) : Type 0 where
@@ -101,13 +112,20 @@ module _ (counts : Counts) (mayRead mayWrite : List ℕ) (holder : ℕ) (readers
   abbrev own : ℕ → ℕ
   own = holderKeyAt (locksState counts mayRead mayWrite readers writers certified) holder
 
-  idle : (n : ℕ) → getD request n 0 ≡ 0 → woken (n + 1) ≡ 0
-  idle n e = simp (at-next, e)
-
   -- the most urgent holder's locks decide
   passes-by : (j : ℕ) → j ≤ mostJobs → passesBelow j (decidingKey t j) ≡ passes s j
   unfolding lowestKeyBy objectKey othersKey weight
   passes-by j high = deciding t H j high .same
+
+  -- where none up to n is woken and none behind it waits, none up to m is woken
+  passed-to : (n m : ℕ) → firstNonzero n woken ≡ 0 → IdleTo request n m → (i : ℕ) → 1 ≤ i → i ≤ m → woken i ≡ 0
+  passed-to n m passed idle i a b = elim (decLe i n) [
+    | yes l ↦ first-nonzero-none n woken i passed a l
+    | no l ↦ simp (idle i (omega arith) b)
+  ]
+
+  pub none-left : (n : ℕ) → firstNonzero n woken ≡ 0 → IdleTo request n (counts .jobs) → 0 ≡ firstNonzero (counts .jobs) woken
+  none-left n passed idle = sym (all-zero-first (counts .jobs) woken (passed-to n (counts .jobs) passed idle))
 
   module _ (list : List ℕ) (count : ℕ) (G : LocksOf readers writers holder (counts .objects) list count) where
     -- the lowest over the gathered objects
@@ -115,43 +133,58 @@ module _ (counts : Counts) (mayRead mayWrite : List ℕ) (holder : ℕ) (readers
     unfolding holderKey weight
     gathered = gathered-key (locksState counts mayRead mayWrite readers writers certified) holder list count G
 
-    stopped : (j k : ℕ) → j ≤ mostJobs → holder ≢ j → 1 ≤ k → k ≤ count → passesBelow j (own (at list k)) ≡ false → woken j ≡ 0
-    stopped j k high d p h b =
-        let no : passesBelow j (decidingKey t j) ≡ false =
-        ap (passesBelow j) (against-other holder (holderKey t holder) j d)
-        ∙ le-ltb j (holderKey t holder / 65536)
+    -- a lock that stops j stops whoever is less urgent and not the holder
+    stopped : (j i k : ℕ) → j ≤ i → i ≤ mostJobs → holder ≢ i → 1 ≤ k → k ≤ count → passesBelow j (own (at list k)) ≡ false → woken i ≡ 0
+    stopped j i k l high d p h b =
+        let no : passesBelow i (decidingKey t i) ≡ false =
+        ap (passesBelow i) (against-other holder (holderKey t holder) i d)
+        ∙ le-ltb i (holderKey t holder / 65536)
         (omega (arith, ltb-false j (own (at list k) / 65536) b, least-le count noKey (λ k. own (at list k)) k p h, gathered)) in
-        go (isWaiting s j) (passes s j) (sym (passes-by j high) ∙ no)
+        go (isWaiting s i) (passes s i) (sym (passes-by i high) ∙ no)
       where
-        go : (a b : Bool) → b ≡ false → (if a && b then j else 0) ≡ 0
+        go : (a b : Bool) → b ≡ false → (if a && b then i else 0) ≡ 0
         go true b e = simp e
         go false b e = refl
 
-    let-by : (n : ℕ) → n < mostJobs → getD request n 0 ≢ 0 → LetBy own list holder count (n + 1) count → woken (n + 1) ≡ n + 1
-    let-by n high w L =
-        let j = n + 1 in
-        let pass : passes s j ≡ true = sym (passes-by j (omega arith)) ∙ decided (eqb holder j) refl in
-        let waits : isWaiting s j ≡ true = ap (λ (q : ℕ). not (eqb q 0)) (at-next request n) ∙ ap not (ne-eqb (getD request n 0) 0 w) in
+    let-by : (j : ℕ) → j ≤ mostJobs → requestOf s j ≢ 0 → LetBy own list holder count j count → woken j ≡ j
+    let-by j high w L =
+        let pass : passes s j ≡ true = sym (passes-by j high) ∙ decided (eqb holder j) refl in
+        let waits : isWaiting s j ≡ true = ap not (ne-eqb (requestOf s j) 0 w) in
         simp (waits, pass)
       where
-        decided : (b : Bool) → eqb holder (n + 1) ≡ b → passesBelow (n + 1) (if b then noKey else holderKey t holder) ≡ true
-        decided true e = lt-ltb (n + 1) (noKey / 65536) (omega arith)
-        decided false e =
-            lt-ltb (n + 1) (holderKey t holder / 65536) (omega (arith, L .above (eqb-false holder (n + 1) e), gathered))
+        decided : (b : Bool) → eqb holder j ≡ b → passesBelow j (if b then noKey else holderKey t holder) ≡ true
+        decided true e = lt-ltb j (noKey / 65536) (omega arith)
+        decided false e = lt-ltb j (holderKey t holder / 65536) (omega (arith, L .above (eqb-false holder j e), gathered))
 
-    module _ (n : ℕ) (passed : firstNonzero n woken ≡ 0) (inside : n < mostJobs) where
-      pub pass-idle : getD request n 0 ≡ 0 → firstNonzero (n + 1) woken ≡ 0
-      pass-idle e = first-nonzero-more n woken ∙ simp (passed, idle n e)
+    -- w is the first waiting rank behind n, and none up to n is woken
+    module _ (n w : ℕ) (few : counts .jobs ≤ mostJobs) (passed : firstNonzero n woken ≡ 0)
+        (next : (n < w) × (w ≤ counts .jobs) × (at request w ≢ 0) × IdleTo request n (w - 1)) where
+      before : (i : ℕ) → 1 ≤ i → i < w → woken i ≡ 0
+      before i a b = passed-to n (w - 1) passed (next .3) i a (omega arith)
 
-      pub pass-stopped : (k : ℕ) → holder ≢ n + 1 → 1 ≤ k → k ≤ count → passesBelow (n + 1) (own (at list k)) ≡ false → firstNonzero (n + 1) woken ≡ 0
-      pass-stopped k d p h b = first-nonzero-more n woken ∙ simp (passed, stopped (n + 1) k (omega arith) d p h b)
+      -- a lock that stops it stops all up to the rank that is tried next
+      pub pass-stopped : (k : ℕ) → holder ≢ w → 1 ≤ k → k ≤ count → passesBelow w (own (at list k)) ≡ false → firstNonzero (allStopped holder w (counts .jobs)) woken ≡ 0
+      pass-stopped k d p h b = all-zero-first (allStopped holder w (counts .jobs)) woken (λ i l r. each i l r (decLt i w))
+        where
+          last : (w ≤ allStopped holder w (counts .jobs)) × (allStopped holder w (counts .jobs) ≤ counts .jobs)
+              × ((i : ℕ) → w ≤ i → i ≤ allStopped holder w (counts .jobs) → holder ≢ w → holder ≢ i)
+          last = all-stopped holder w (counts .jobs) (next .1)
 
-      pub found : n < counts .jobs → getD request n 0 ≢ 0 → LetBy own list holder count (n + 1) count → n + 1 ≡ firstNonzero (counts .jobs) woken
-      found h w l =
-          let here : firstNonzero (n + 1) woken ≡ suc n =
-          first-nonzero-more n woken ∙ ap (λ (a : ℕ). a orElse woken (n + 1)) passed ∙ let-by n inside w l ∙ add-one n
-          in
-          sym (first-nonzero-keeps (n + 1) (counts .jobs) woken n here (omega arith) ∙ sym (add-one n))
+          each : (i : ℕ) → 1 ≤ i → i ≤ allStopped holder w (counts .jobs) → Dec (i < w) → woken i ≡ 0
+          each i l r (yes a) = before i l a
+          each i l r (no a) = stopped w i k (omega arith) (omega (arith, last .1)) (last .2 i (omega arith) r d) p h b
+
+      pub found : LetBy own list holder count w count → w ≡ firstNonzero (counts .jobs) woken
+      found L = go w refl
+        where
+          is : woken w ≡ w
+          is = let-by w (omega (arith, next .1)) (next .2) L
+
+          go : (v : ℕ) → w ≡ v → w ≡ firstNonzero (counts .jobs) woken
+          go zero e = absurd (omega (arith, next .0))
+          go (suc v) e =
+              let none = all-zero-first v woken (λ i a b. before i a (omega arith)) in
+              sym (first-nonzero-at v (counts .jobs) woken none (λ z. omega (arith, is, ap woken e, z)) (omega (arith, next .1)) ∙ ap woken (sym e) ∙ is)
 
   -- where nobody waits, nobody is woken
   pub none-woken : counts .jobs ≤ mostJobs → every mostJobs (λ r. eqb (at request r) 0) ≡ true → 0 ≡ firstNonzero (counts .jobs) woken

@@ -1,12 +1,13 @@
 // The rule of 1PI-RWPCP: whether a request passes, whom it names and why, the wake search.
 // A function sees the parts of a state that it asks about: numbers by value, a rank's or an object's array by reference.
 ghost use mathlib.Core.Path.{_≡_};
-ghost use Prim.Native.Nat.{_≤_};
+ghost use mathlib.Core.Logic.{_⊎_};
+ghost use Prim.Native.Nat.{_+_, _≤_, _<_};
 ghost use Rattle.state.specs.State.{mostJobs};
 ghost use Rattle.state.specs.Holders.{HolderFacts, heldState};
 ghost use Rattle.rule.specs.Granting as G;
 ghost use Rattle.rule.specs.Parts.{waitsState};
-ghost use Rattle.rule.specs.WakeLaws.{notCounting};
+ghost use Rattle.rule.specs.WakeLaws.{notCounting, allStopped, IdleTo, NextWaiting};
 use one_holder::locked_by;
 use one_holder::own_key_at;
 use ranks::RankSet;
@@ -74,6 +75,49 @@ fn not_counting(holder: u8, count: usize, rank: u8) -> usize
     if holder == rank { count } else { 0 }
 }
 
+// Up to which rank a lock of the holder that stops the rank stops all that wait: those that are less urgent too, but for the holder.
+fn all_stopped(holder: u8, rank: u8, jobs: u8) -> u8
+    ensures { λ r. ⌜ r ≡ allStopped holder rank jobs ⌝ }
+{
+    if (rank < holder) & (holder <= jobs) {
+        holder - 1
+    } else {
+        jobs
+    }
+}
+
+// How many ranks from an index on are passed over together: eight where a block begins there of which none waits, else none.
+fn idle_ranks(request: &JobRequests, from: usize) -> usize
+    requires { ⌜ from < mostJobs ⌝ }
+    ensures { λ r. ⌜ (r ≡ 0) ⊎ ((r ≡ 8) × (from + 8 ≤ mostJobs) × IdleTo (now (request .entry)) from (from + 8)) ⌝ }
+{
+    if from % 8 != 0 {
+        return 0;
+    }
+    if none_waits(request, from, 8) { 8 } else { 0 }
+}
+
+// The first waiting rank of the table behind the given one; 0 where there is none.
+fn next_waiting(request: &JobRequests, rank: u8, jobs: u8) -> u8
+    requires { ⌜ (rank ≤ jobs) × (jobs ≤ mostJobs) ⌝ }
+    ensures { λ r. ⌜ NextWaiting (now (request .entry)) rank jobs r ⌝ }
+{
+    let last = jobs as usize;
+    let mut i = rank as usize;
+    while i < last {
+        let idle = idle_ranks(request, i);
+        if idle != 0 {
+            i += idle;
+        } else {
+            if request[i] != 0 {
+                return (i + 1) as u8;
+            }
+            i += 1;
+        }
+    }
+    0
+}
+
 // The most urgent waiting rank whose request passes, and 0 where none does. The locks of the most urgent holder decide; which objects they are on is gathered once.
 pub fn wakeable<'a>(
     counts: Counts,
@@ -94,31 +138,29 @@ pub fn wakeable<'a>(
     let locked = locked_by(counts, readers, writers, holder);
     let mut rank: u8 = 0;
     'search: loop {
-        if rank == counts.jobs {
+        rank = next_waiting(request, rank, counts.jobs);
+        if rank == 0 {
             break 'search 0;
         }
-        let at = rank as usize;
-        rank += 1;
-        if request[at] != 0 {
-            let mut done = not_counting(holder, locked.count, rank);
-            while done < locked.count {
-                let object = locked.objects[done];
-                done += 1;
-                let key = own_key_at(
-                    counts,
-                    may_read,
-                    may_write,
-                    readers,
-                    writers,
-                    certified,
-                    object,
-                    holder,
-                );
-                if !passes(rank, key) {
-                    continue 'search;
-                }
+        let mut done = not_counting(holder, locked.count, rank);
+        while done < locked.count {
+            let object = locked.objects[done];
+            done += 1;
+            let key = own_key_at(
+                counts,
+                may_read,
+                may_write,
+                readers,
+                writers,
+                certified,
+                object,
+                holder,
+            );
+            if !passes(rank, key) {
+                rank = all_stopped(holder, rank, counts.jobs);
+                continue 'search;
             }
-            break 'search rank;
         }
+        break 'search rank;
     }
 }
