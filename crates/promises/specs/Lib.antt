@@ -17,5 +17,6 @@ pub mod TableStates
 pub mod Finishing
 pub mod LocksApart
 pub mod HeldUp
+pub mod OneHolder
 pub mod Promises
 pub mod Example

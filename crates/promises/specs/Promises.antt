@@ -1,10 +1,10 @@
--- The promises about the manager as a whole: demand 3, well-formed states, granting and naming, no second wake-up, the old rule on one processor,
--- sleepers that change no lock decision, nobody by the table, and write locks that stay, for tables of both versions, but the old rule for version 1;
--- what holds of version 2 alone; and finished runs as if one by one, for both. Their terms are in Terms.antt, for demand 3 in theory/specs/Words.antt, for
--- write locks in theory/specs/WriteLocks.antt and for finished runs in theory/specs/Arrows.antt; the files between Terms.antt and this one prove them.
--- The sentences in quotes are document 01's, or where it says so 02's. Assumes nothing.
+-- The promises about the manager as a whole: demand 3, well-formed states, granting and naming, one holder that decides, no second wake-up, the old rule
+-- on one processor, sleepers that change no lock decision, nobody by the table, and write locks that stay, for tables of both versions, but the old rule
+-- for version 1; what holds of version 2 alone; and finished runs as if one by one, for both. Their terms are in Terms.antt, for demand 3 in
+-- theory/specs/Words.antt, for write locks in theory/specs/WriteLocks.antt and for finished runs in theory/specs/Arrows.antt; the files between Terms.antt
+-- and this one prove them. The sentences in quotes are document 01's, or where it says so 02's. Assumes nothing.
 use mathlib.Core.Path.{_≡_, refl, sym, subst, ap, _∙_}
-use mathlib.Core.Logic.{_≢_, _↔_}
+use mathlib.Core.Logic.{_≢_, _↔_, _⊎_}
 use mathlib.Core.Bool.{true, false}
 use mathlib.Core.List.{List, [], _∷_}
 use Prim.Native.Nat.{ℕ, zero, suc, _≤_}
@@ -37,7 +37,8 @@ use Rattle.theory.specs.Keeps.{none-passes}
 use Rattle.theory.specs.WritesStay.{write-kept}
 use Rattle.theory.specs.Lists.{stateAt, labelAt, demand3-of, writes-stay-of, writes-shown-of, writes-certified-of, in-order-of}
 use Rattle.theory.specs.RunOrder.{InOrder}
-use Rattle.promises.specs.Terms.{Event, outcomeOf, next, label, named, Reached, fresh, after, oldRequest, NoSleeperAbove, AboveWriters, CeilingIs}
+use Rattle.promises.specs.Terms.{Event, outcomeOf, next, label, named, Reached, fresh, after}
+use Rattle.promises.specs.Terms.{MoreUrgentThanLocksOf, FirstOfLocks, oldRequest, NoSleeperAbove, AboveWriters, CeilingIs}
 use Rattle.promises.specs.TableStates.{read-sized, read-version}
 use Rattle.promises.specs.View.{view}
 use Rattle.promises.specs.LockModes.{modes, write-mode, mode-write, certify-mode, mode-certify}
@@ -50,6 +51,7 @@ use Rattle.promises.specs.Sleeping.{answer-same, named-lock-same, inheri
 use Rattle.promises.specs.Example.{sleepTable, sleep-answers, sleepEvents, slept}
 use Rattle.promises.specs.LocksApart.{manages-version, moves-version, apart-version}
 use Rattle.promises.specs.HeldUp.{answer-certified, named-certified}
+use Rattle.promises.specs.OneHolder.{granted-to-holder, granted-by-one, waits-one, waits-first, names-carried, carried-goes-on}
 use Rattle.promises.specs.NobodyAs65.{ceiling65, oldRequest65, step65, askInheritedRank65, askNamedLock65, askCeilings65, askRunning65}
 use Rattle.promises.specs.Nobody.{old-request-same, step-same, ask-inherited-same, ask-named-same, ask-running-same, ask-ceilings-are, ask-ceilings-64}
 
@@ -78,7 +80,8 @@ list-reached s r (e ∷ es) (suc t) = list-reached (next s e) (after r e) es t
 
 -- ---- WELL-FORMED STATES
 -- An event in any well-formed state, however it was come by, returns a well-formed state, so that "8 the state handed in isn't well formed"
--- is never the manager's own doing.
+-- is never the manager's own doing. 02, CR 9, of its two lines, the carried rank and the order of the holders: "A state that breaks them is refused by 8.
+-- No sequence from a fresh state ever does."
 pub keeps-well-formed : (s : State) → Sized s → wellFormed s ≡ true → (e : Event) → Sized (next s e) × (wellFormed (next s e) ≡ true)
 keeps-well-formed s z w e =
     (step-keeps s (facts s z w) (e .kind) (e .rank) (e .object) .sized, step-well-formed s z w (e .kind) (e .rank) (e .object))
@@ -99,6 +102,35 @@ module _ (s : State) (sized : Sized s) (well : wellFormed s ≡ true) (e : Event
   pub waits-names : paper (outcomeOf s e .answer) .number ≡ 2
       → FirstOfOthers s (e .rank) (getD (paper (outcomeOf s e .answer) .values) 0 0) (getD (paper (outcomeOf s e .answer) .values) 1 0)
   waits-names = waits-for s sized well (e .kind) (e .rank) (e .object) kind ok
+
+-- ---- ONE HOLDER DECIDES
+-- 02, CR 9: "The state shall carry the most urgent holder, 0 if none." Of the requests of the section above, in any well-formed state. "Both must equal the
+-- full reading of all locks": that reading is `granted-iff` and `waits-names`, of the same answers.
+module _ (s : State) (sized : Sized s) (well : wellFormed s ≡ true) (e : Event) (kind : isRequest (e .kind) ≡ true)
+    (ok : paper (outcomeOf s e .answer) .number ≢ 4) where
+  -- "If, after the refusals, that is the requester, the answer is a grant", and so it is where there is no holder;
+  pub holder-granted : (s .holder ≡ 0) ⊎ (s .holder ≡ e .rank) → paper (outcomeOf s e .answer) .number ≡ 1
+  holder-granted = granted-to-holder s sized well (e .kind) (e .rank) (e .object) kind ok
+
+  -- "otherwise only that job's locks decide it": it is a grant if and only if the requester is more urgent than the weight of each of them.
+  pub holder-decides : s .holder ≢ 0 → s .holder ≢ e .rank
+      → (paper (outcomeOf s e .answer) .number ≡ 1) ↔ MoreUrgentThanLocksOf s (s .holder) (e .rank)
+  holder-decides = granted-by-one s sized well (e .kind) (e .rank) (e .object) kind ok
+
+  -- Who waits names the carried rank, and the first of that job's locks.
+  pub waits-for-holder : paper (outcomeOf s e .answer) .number ≡ 2 → getD (paper (outcomeOf s e .answer) .values) 0 0 ≡ s .holder
+  waits-for-holder = waits-one s sized well (e .kind) (e .rank) (e .object) kind ok
+
+  pub waits-for-first-lock : paper (outcomeOf s e .answer) .number ≡ 2
+      → FirstOfLocks s (s .holder) (getD (paper (outcomeOf s e .answer) .values) 1 0)
+  waits-for-first-lock = waits-first s sized well (e .kind) (e .rank) (e .object) kind ok
+
+-- In every state that is reached whoever waits names the carried rank, and that job does not wait.
+pub waiting-names-carried : {t : State} → Reached t → (j : ℕ) → isWaiting t j ≡ true → named t j ≡ t .holder
+waiting-names-carried = names-carried
+
+pub carried-not-waiting : {t : State} → Reached t → isWaiting t (t .holder) ≡ false
+carried-not-waiting = carried-goes-on
 
 -- ---- NO SECOND WAKE-UP
 -- "After kinds 4, 5 and 6 the waiting jobs are searched .., and the search stops with the first whose request passes. It gets its lock.

@@ -1,6 +1,6 @@
 -- The terms of the promises: events, what demand 3 reads off an event and its answer, whom a job names, the states that are reached,
--- a request by the old rule, no sleeper above a job, who is more urgent than an object's writers, and a ceiling. The sentences in quotes are document 01's,
--- or where it says so 02's.
+-- one job's locks, a request by the old rule, no sleeper above a job, who is more urgent than an object's writers, and a ceiling. The sentences in quotes
+-- are document 01's, or where it says so 02's.
 -- Assumes nothing.
 use mathlib.Core.Path.{_≡_}
 use mathlib.Core.Bool.{Bool, true, _||_}
@@ -9,10 +9,13 @@ use lib.Dec.{eqb}
 use lib.ListN.{getD}
 use Rattle.basics.specs.Choice.{if_then_else_, between}
 use Rattle.state.specs.declared.State.{State}
-use Rattle.state.specs.State.{write, mayLock, holdsAny, isSleeping}
+use Rattle.state.specs.State.{write, mayLock, holds, holdsAny, isSleeping}
 use Rattle.state.specs.Facts.{Sized, In}
+use Rattle.state.specs.Modes.{Mode}
+use Rattle.state.specs.Weights.{weight}
 use Rattle.table.specs.Fresh.{Fresh}
 use Rattle.weights.specs.Keys.{oldLowestKey}
+use Rattle.rule.specs.GrantingTheorems.{ComesFirst}
 use Rattle.events.specs.declared.Outcome.{Outcome}
 use Rattle.events.specs.Answers.{Paper, paper}
 use Rattle.refusals.specs.Refusals.{modeOf}
@@ -81,6 +84,18 @@ named s j = value (namedReply (askNamedLock s j)) 0 0
 pub data Reached : State → Type 0 where
   fresh : {s : State} → Sized s → Fresh s → Reached s
   after : {s : State} → Reached s → (e : Event) → Reached (next s e)
+
+-- ---- the locks of one job, h: 02, CR 9: "only that job's locks decide it"
+-- rank j is more urgent than the weight of each of them
+abbrev pub MoreUrgentThanLocksOf : State → ℕ → ℕ → Type 0
+MoreUrgentThanLocksOf s h j = (m o : ℕ) → Mode m → holds s m h o ≡ true → j < weight s m h o
+
+-- the one on o is the first of them: "the most urgent weight, ties going to .. the lowest object number"
+pub record FirstOfLocks (s : State) (h o : ℕ) : Type 0 where
+  pub mode : ℕ
+  pub known : Mode mode
+  pub held : holds s mode h o ≡ true
+  pub first : (m p : ℕ) → Mode m → holds s m h p ≡ true → ComesFirst (weight s mode h o) h o (weight s m h p) h p
 
 -- ---- a request of r for object o in mode m by the old rule: "The old rule is the same with a read lock weighing the write ceiling alone."
 abbrev pub oldRequest : State → ℕ → ℕ → ℕ → Outcome
