@@ -11,7 +11,7 @@
  * Every call may be given any contents of the struct, any bytes and any numbers: it answers, or refuses by a number from 1 to 27 (below).
  * A call that refuses leaves every byte that was lent to it as it was; an event that is refused in a list of events leaves the state as it was, and has its
  * answer as the others have. No call allocates, blocks, ends the program or keeps anything between calls, so that two threads may work on two states.
- * Reading a table takes about 6 KB of stack and writing one about 10 KB, an event, a list of events, a question, the state page or a test load less
+ * Reading a table takes about 6 KB of stack and writing one about 11 KB, an event, a list of events, a question, the state page or a test load less
  * than 1 KB. Of the C library only memcpy and memset are needed.
  *
  * What the caller still owes: each pointer points to an object of its type (a buffer or a list: to at least as many bytes or elements as its length says,
