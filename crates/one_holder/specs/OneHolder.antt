@@ -8,7 +8,7 @@ use borrow.Author.Tests.{eq-eqb, ne-eqb}
 use Prim.Native.Nat.{ℕ, _-_, _≤_, min}
 use lib.Dec.{eqb, ltb}
 use lib.ListN.{getD}
-use Rattle.basics.specs.Arrays.{at, at-index}
+use Rattle.basics.specs.Arrays.{at-index}
 use Rattle.basics.specs.Choice.{if_then_else_}
 use Rattle.basics.specs.Loops.{least}
 use Rattle.state.specs.declared.Counts.{Counts}

@@ -1,7 +1,7 @@
 -- What the most urgent holder's key decides is what the lowest of all keys does (02, CR 9: "Both must equal the full reading of all locks"): in any state of
 -- which the facts of its holders are known, for any rank. First the lock that is named, then the two sentences for well-formed states.
 -- Assumes nothing.
-use mathlib.Core.Path.{_≡_, refl, sym, ap, _∙_}
+use mathlib.Core.Path.{_≡_, refl}
 use mathlib.Core.Logic.{_≢_, _⊎_}
 use mathlib.Core.Bool.{Bool, true, false, not, _&&_}
 use Prim.Native.Nat.{ℕ, _≤_}

@@ -1,17 +1,15 @@
--- The rule over parts of a state: the states that have what a function of the code sees, all else 0 or empty, and the same rule over numbers.
+-- The rule over parts of a state: the state that has what a function of the code sees, all else 0 or empty, and the same rule over numbers.
 -- Each law says that a question about a state is the same question about its parts.
 -- Assumes nothing.
-use mathlib.Core.Path.{_≡_, refl, _∙_}
+use mathlib.Core.Path.{_≡_, refl}
 use mathlib.Core.List.{List, []}
 use Prim.Native.Nat.{ℕ}
-use Rattle.basics.specs.Loops.{least}
 use Rattle.state.specs.declared.Counts.{Counts}
 use Rattle.state.specs.declared.State.{State}
-use Rattle.state.specs.State.{stateOf, holders, sharesWithNone, requestOf, write}
+use Rattle.state.specs.State.{stateOf, holders, sharesWithNone, write}
 use Rattle.state.specs.Weights.{writeCeiling, weight}
-use Rattle.weights.specs.Keys.{noKey, othersKey, objectKey, lowestKey, lowestKeyBy}
-use Rattle.weights.specs.Parts.{locksOf, keyAt, lowest-key-parts, lowest-key-at}
-use Rattle.rule.specs.Granting.{namedKeyOf, namedKey, reasonOf, reason, wakeable}
+use Rattle.weights.specs.Keys.{othersKey, objectKey, lowestKeyBy}
+use Rattle.rule.specs.Granting.{namedKey, reasonOf, reason, wakeable}
 
 -- a state with these counts, declarations, locks and requests
 abbrev pub waitsState : Counts → List ℕ → List ℕ → List ℕ → List ℕ → List ℕ → List ℕ → State
@@ -22,10 +20,6 @@ abbrev pub waitsOf : State → State
 waitsOf s = waitsState (s .counts) (s .«may_read») (s .«may_write») (s .readers) (s .writers) (s .certified) (s .request)
 
 -- ---- the same question about the parts
-
-pub named-key-parts : (s : State) (j : ℕ) → namedKey s j ≡ namedKeyOf (requestOf s j) (lowestKey (locksOf s) j) j
-unfolding lowestKeyBy objectKey othersKey weight namedKey
-named-key-parts s j = refl
 
 pub named-waits-parts : (s : State) (j : ℕ) → namedKey s j ≡ namedKey (waitsOf s) j
 unfolding lowestKeyBy objectKey othersKey weight namedKey
@@ -38,9 +32,3 @@ reason-parts s m o h p = refl
 pub wakeable-parts : (s : State) → wakeable s ≡ wakeable (waitsOf s)
 unfolding lowestKeyBy objectKey othersKey weight wakeable
 wakeable-parts s = refl
-
--- the lowest key of a state with requests, by the arrays
-pub waits-key : (counts : Counts) (mayRead mayWrite readers writers certified request : List ℕ) (j : ℕ)
-    → lowestKey (waitsState counts mayRead mayWrite readers writers certified request) j ≡ least (counts .objects) noKey (keyAt counts mayRead mayWrite readers writers certified j)
-waits-key counts mayRead mayWrite readers writers certified request j =
-    lowest-key-parts (waitsState counts mayRead mayWrite readers writers certified request) j ∙ lowest-key-at counts mayRead mayWrite readers writers certified j

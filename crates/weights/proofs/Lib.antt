@@ -1,4 +1,2 @@
 mod TopBits
 mod PutIn
-mod Firsts
-mod Sets

@@ -2,18 +2,16 @@
 // A function sees the parts of a state that it asks about: an object's sets of ranks by value, an object's array by reference.
 ghost use mathlib.Core.Path.{_≡_};
 ghost use mathlib.Core.Bool.{_||_};
-ghost use Prim.Native.Nat.{ℕ, _≤_, _<_, min};
+ghost use Prim.Native.Nat.{ℕ, _≤_, min};
 ghost use lib.Dec.{eqb};
 ghost use Rattle.ranks.specs.Ranks.{first, union};
 ghost use Rattle.state.specs.State.{mostJobs, mostObjects, marked};
 ghost use Rattle.state.specs.Weights as W;
 ghost use Rattle.weights.specs.Keys as K;
 ghost use Rattle.weights.specs.ObjectKeys as O;
-ghost use Rattle.weights.specs.Parts as P;
 use ranks::RankSet;
 use state::Counts;
 use state::ObjectMarks;
-use state::Sets;
 
 // The key of no lock: above that of every lock, since its weight is above every weight.
 pub const NO_KEY: u64 = 257 * 65536;
@@ -77,18 +75,6 @@ pub fn key_object(key: u64) -> u8
     (key % 256) as u8
 }
 
-// The lowest key among the read locks that the readers hold on the object, by its write ceiling.
-fn reader_key(readers: RankSet, write_ceiling: u16, object: u8) -> u64
-    ensures { λ r. ⌜ r ≡ O.readerKey readers «write_ceiling» object ⌝ }
-{
-    if ranks::is_empty(readers) {
-        return NO_KEY;
-    }
-    let reader = ranks::first(readers);
-    let weight = more_urgent(write_ceiling, reader as u16);
-    lock_key(weight, reader, object)
-}
-
 // What a write lock on the object weighs: the absolute ceiling where it shares with none, else the write ceiling.
 pub fn write_weight(
     counts: Counts,
@@ -98,7 +84,7 @@ pub fn write_weight(
     object: u8,
 ) -> u16
     requires { ⌜ (1 ≤ object) × (object ≤ mostObjects) ⌝ }
-    ensures { λ r. ⌜ (r ≡ O.writersWeight counts (eqb (counts .version) 1 || marked (now (certified .entry)) object) «may_read» «may_write») × (r < K.noWeight) ⌝ }
+    ensures { λ r. ⌜ r ≡ O.writersWeight counts (eqb (counts .version) 1 || marked (now (certified .entry)) object) «may_read» «may_write» ⌝ }
 {
     let declared = if state::shares_with_none(counts.version, certified, object) {
         ranks::union(may_read, may_write)
@@ -106,117 +92,4 @@ pub fn write_weight(
         may_write
     };
     ceiling(counts, declared)
-}
-
-// The lowest key among the write locks that the writers hold on the object.
-fn writer_key(
-    counts: Counts,
-    certified: &ObjectMarks,
-    writers: RankSet,
-    may_read: RankSet,
-    may_write: RankSet,
-    object: u8,
-) -> u64
-    requires { ⌜ (1 ≤ object) × (object ≤ mostObjects) ⌝ }
-    ensures { λ r. ⌜ r ≡ O.writerKey writers (O.writersWeight counts (eqb (counts .version) 1 || marked (now (certified .entry)) object) «may_read» «may_write») object ⌝ }
-{
-    if ranks::is_empty(writers) {
-        return NO_KEY;
-    }
-    let weight = write_weight(counts, certified, may_read, may_write, object);
-    lock_key(weight, ranks::first(writers), object)
-}
-
-// The lowest key among the locks that others than the rank hold on the object.
-pub fn object_key(
-    counts: Counts,
-    certified: &ObjectMarks,
-    readers: RankSet,
-    writers: RankSet,
-    may_read: RankSet,
-    may_write: RankSet,
-    object: u8,
-    rank: u8,
-) -> u64
-    requires { ⌜ (1 ≤ object) × (object ≤ mostObjects) × (1 ≤ rank) × (rank ≤ mostJobs) ⌝ }
-    ensures { λ r. ⌜ r ≡ O.objectKeyOf counts (eqb (counts .version) 1 || marked (now (certified .entry)) object) readers writers «may_read» «may_write» object rank ⌝ }
-{
-    if ranks::is_empty(ranks::union(readers, writers)) {
-        return NO_KEY;
-    }
-    lower(
-        reader_key(
-            ranks::without(readers, rank),
-            ceiling(counts, may_write),
-            object,
-        ),
-        writer_key(
-            counts,
-            certified,
-            ranks::without(writers, rank),
-            may_read,
-            may_write,
-            object,
-        ),
-    )
-}
-
-// The same of an object by its number.
-pub fn key_at<'a>(
-    counts: Counts,
-    may_read: Sets<'a>,
-    may_write: Sets<'a>,
-    readers: Sets<'a>,
-    writers: Sets<'a>,
-    certified: &'a ObjectMarks,
-    object: u8,
-    rank: u8,
-) -> u64
-    requires { ⌜ (1 ≤ object) × (object ≤ mostObjects) × (1 ≤ rank) × (rank ≤ mostJobs) ⌝ }
-    ensures { λ r. ⌜ r ≡ P.keyAt counts (now («may_read» .entry)) (now («may_write» .entry)) (now (readers .entry)) (now (writers .entry)) (now (certified .entry)) rank object ⌝ }
-{
-    let i = (object - 1) as usize;
-    object_key(
-        counts,
-        certified,
-        readers[i],
-        writers[i],
-        may_read[i],
-        may_write[i],
-        object,
-        rank,
-    )
-}
-
-// The lowest key among the locks that others than the rank hold.
-pub fn lowest_key<'a>(
-    counts: Counts,
-    may_read: Sets<'a>,
-    may_write: Sets<'a>,
-    readers: Sets<'a>,
-    writers: Sets<'a>,
-    certified: &'a ObjectMarks,
-    rank: u8,
-) -> u64
-    requires { ⌜ (counts .objects ≤ mostObjects) × (1 ≤ rank) × (rank ≤ mostJobs) ⌝ }
-    ensures { λ r. ⌜ r ≡ K.lowestKey (P.locksState counts (now («may_read» .entry)) (now («may_write» .entry)) (now (readers .entry)) (now (writers .entry)) (now (certified .entry))) rank ⌝ }
-{
-    let objects = counts.objects;
-    let mut lowest = NO_KEY;
-    let mut done: u8 = 0;
-    while done < objects {
-        done += 1;
-        let key = key_at(
-            counts,
-            may_read,
-            may_write,
-            readers,
-            writers,
-            certified,
-            done,
-            rank,
-        );
-        lowest = lower(lowest, key);
-    }
-    lowest
 }

@@ -1,7 +1,7 @@
 -- `changes::holder_of` meets its contract: all readers and all writers joined are the holders of each object joined.
 -- Assumes nothing.
 use denote.Ref.{now}
-use mathlib.Core.Path.{_≡_, ap, ap₂, _∙_}
+use mathlib.Core.Path.{ap, ap₂, _∙_}
 use Prim.Native.Nat.{_+_}
 use native.Mathlib.Nat.{zero-add}
 use Rattle.basics.specs.Arrays.{at}

@@ -13,7 +13,6 @@ use Rattle.refusals.specs.Refusals.{eventRefusal}
 use Rattle.events.specs.Events as E
 use Rattle.events.proofs.EventLaws as L
 use mathlib.Core.Path.{refl}
-use borrow.Author.Needs.{needs}
 use Rattle.events.proofs.certify.Statement.{statement}
 use Rattle.events.proofs.certify.Tie as tie
 use Rattle.events.proofs.certify.Reads as reads

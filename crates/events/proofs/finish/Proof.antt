@@ -10,7 +10,6 @@ use Rattle.state.specs.State.{stateOf}
 use Rattle.refusals.specs.Accepting.{accepted-numbers}
 use Rattle.events.specs.Events as E
 use Rattle.events.proofs.EventLaws as L
-use borrow.Author.Needs.{needs}
 use Rattle.events.proofs.finish.Statement.{statement}
 use Rattle.events.proofs.finish.Tie as tie
 

@@ -1,7 +1,7 @@
 -- `one_holder::deciding_key` meets its contract, in each of the two cases.
 -- Assumes nothing.
 use denote.Ref.{now}
-use mathlib.Core.Path.{_≡_, sym, _∙_}
+use mathlib.Core.Path.{sym, _∙_}
 use Rattle.state.specs.Weights.{weight}
 use Rattle.state.specs.Holders.{heldState}
 use Rattle.one_holder.specs.OneHolder.{holderKey, against-holder, against-other}

@@ -1,6 +1,6 @@
 -- `one_holder::key_against` meets its contract, in each of the two cases.
 -- Assumes nothing.
-use mathlib.Core.Path.{_≡_, sym}
+use mathlib.Core.Path.{sym}
 use Rattle.one_holder.specs.OneHolder.{against-holder, against-other}
 use Rattle.one_holder.proofs.key_against.Statement.{statement}
 use Rattle.one_holder.proofs.key_against.Tie as tie

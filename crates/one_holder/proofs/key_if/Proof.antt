@@ -1,6 +1,6 @@
 -- `one_holder::key_if` meets its contract, in each branch.
 -- Assumes nothing.
-use mathlib.Core.Path.{_≡_, sym, ap, _∙_}
+use mathlib.Core.Path.{sym, ap, _∙_}
 use Rattle.basics.specs.Choice.{if_then_else_}
 use Rattle.weights.specs.Keys.{lockKey, noKey}
 use borrow.Author.Needs.{needs}

@@ -1,7 +1,5 @@
 -- `one_holder::own_key` meets its contract: the two keys as they are weighed, and the lower of them.
 -- Assumes nothing.
-use mathlib.Core.Path.{_≡_, ap, ap₂, _∙_}
-use Prim.Native.Nat.{min}
 use borrow.Author.Needs.{needs}
 use Rattle.one_holder.proofs.own_key.Statement.{statement}
 use Rattle.one_holder.proofs.own_key.Tie as tie

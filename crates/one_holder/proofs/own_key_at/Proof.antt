@@ -1,7 +1,7 @@
 -- `one_holder::own_key_at` meets its contract: the object's sets stand before its number.
 -- Assumes nothing.
 use denote.Ref.{now}
-use mathlib.Core.Path.{_≡_, sym, _∙_}
+use mathlib.Core.Path.{sym, _∙_}
 use native.Mathlib.Omega.{arith}
 use Rattle.one_holder.specs.OneHolder.{own-key-there}
 use borrow.Author.Needs.{needs}

@@ -1,6 +1,6 @@
 -- `rule::not_counting` meets its contract, in each of the two cases.
 -- Assumes nothing.
-use mathlib.Core.Path.{_≡_, sym, ap}
+use mathlib.Core.Path.{sym, ap}
 use borrow.Author.Tests.{eq-eqb, ne-eqb}
 use Rattle.basics.specs.Choice.{if_then_else_}
 use Rattle.rule.proofs.not_counting.Statement.{statement}

@@ -5,7 +5,6 @@ use Prim.Native.Nat.{ℕ}
 use mathlib.Core.Path.{_≡_, refl, sym, ap, _∙_}
 use mathlib.Core.Logic.{inl, inr}
 use mathlib.Core.Bool.{Bool, true, false, _||_}
-use native.Mathlib.Omega.{arith}
 use lib.Dec.{eqb}
 use Rattle.basics.specs.Choice.{if_then_else_}
 use Rattle.ranks.specs.Ranks.{union}
@@ -44,7 +43,7 @@ returns c =
       | inr t ↦ t .1 ∙ ap of-none (sym (t .0 .left))
     ] in
     let is = c .ceiling .ensures ∙ ap (ceilingOf (a .counts)) (set ∙ ap of-none (c .before .before .shares-with-none .ensures)) in
-    (is ∙ weight-of (a .counts) (eqb (a .counts .version) 1 || marked (now (a .certified)) (a .object)) (a .may-read) (a .may-write), omega (arith, c .ceiling .ensures))
+    is ∙ weight-of (a .counts) (eqb (a .counts .version) 1 || marked (now (a .certified)) (a .object)) (a .may-read) (a .may-write)
 
 pub write-weight-spec : {M : Type 1} → statement M
 write-weight-spec =
