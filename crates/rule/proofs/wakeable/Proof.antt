@@ -56,7 +56,7 @@ returns c =
     none-woken (a .counts) (now (a .may-read)) (now (a .may-write)) (a .holder) (now (a .readers)) (now (a .writers)) (now (a .certified)) (now (a .request)) (c .before .before .pre .1) (c .before .before .pre .0) (every-same mostJobs (λ (k : ℕ). eqb (at (now (a .request)) k) 0) (λ (k : ℕ). eqb (at (now (a .request)) (0 + k)) 0) (λ k l h. ap (λ (n : ℕ). eqb (at (now (a .request)) n) 0) (sym (zero-add k))) ∙ sym (c .before .none-waits .ensures) ∙ c .if1 .taken)
 
 locked-by-requires : tie.Need-locked-by-requires Inv-loop μ-loop Inv-search μ-search
-locked-by-requires c κs = (let H = c .before .before .pre .1 in (H .few, carried-small _ H))
+locked-by-requires c κs = (let H = c .before .before .pre .1 in (H .few, omega (arith, carried-small _ H)))
 
 search-holds : tie.Need-search-holds Inv-loop μ-loop Inv-search μ-search
 unfolding firstNonzero
