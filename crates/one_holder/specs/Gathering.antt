@@ -5,12 +5,12 @@ use mathlib.Core.Path.{_≡_, refl, sym, subst, ap, _∙_}
 use mathlib.Core.Logic.{_≢_, _⊎_, inl, inr}
 use mathlib.Core.Bool.{Bool, true, false}
 use mathlib.Core.List.{List}
-use Prim.Native.Nat.{ℕ, _+_, _-_, _≤_, _<_, min}
+use Prim.Native.Nat.{ℕ, _+_, _-_, _≤_, _<_}
 use native.Mathlib.Nat.{le-antisymm, add-zero}
 use native.Mathlib.Omega.{arith}
-use native.Mathlib.Decide.{ℕ-discrete, decLe}
+use native.Mathlib.Decide.{decLe}
 use lib.ListN.{length, set}
-use Rattle.basics.specs.Choice.{if_then_else_, clash}
+use Rattle.basics.specs.Choice.{clash}
 use Rattle.basics.specs.Arrays.{at, put, at-put-same, at-put-other, put-index}
 use Rattle.basics.specs.Loops.{oneIf, least, least-top, least-le, le-least}
 use Rattle.ranks.specs.Ranks.{member, union, unions}
@@ -18,9 +18,7 @@ use Rattle.ranks.specs.RankLaws.{member-zero}
 use Rattle.ranks.specs.UnionLaws.{union-left, union-right, unions-both, in-unions}
 use Rattle.state.specs.declared.State.{State}
 use Rattle.state.specs.State.{mostObjects, read, write, holders}
-use Rattle.state.specs.Weights.{weight}
-use Rattle.weights.specs.Keys.{lockKey, noKey}
-use Rattle.weights.specs.ObjectKeys.{heldKey}
+use Rattle.weights.specs.Keys.{noKey}
 use Rattle.one_holder.specs.OneHolder.{holderKeyAt, holderKey}
 
 -- how many objects are passed over together

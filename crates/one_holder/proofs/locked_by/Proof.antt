@@ -9,7 +9,7 @@ use lib.ListN.{length, set, length-set}
 use Rattle.basics.specs.Arrays.{at-next}
 use Rattle.ranks.specs.Ranks.{member, union}
 use Rattle.state.specs.State.{mostObjects}
-use Rattle.one_holder.specs.Gathering.{heldBy, LocksTo, LocksOf, passed-small, locks-none, locks-passed, locks-next, nobody-locks}
+use Rattle.one_holder.specs.Gathering.{heldBy, LocksTo, passed-small, locks-none, locks-passed, locks-next, nobody-locks}
 use borrow.Author.Needs.{needs}
 use Rattle.one_holder.proofs.locked_by.Statement.{statement}
 use Rattle.one_holder.proofs.locked_by.Tie as tie

@@ -1,6 +1,6 @@
 -- `one_holder::one_if` meets its contract, in each of the two cases.
 -- Assumes nothing.
-use mathlib.Core.Path.{_≡_, sym, ap}
+use mathlib.Core.Path.{sym, ap}
 use native.Mathlib.Omega.{arith}
 use Rattle.basics.specs.Loops.{oneIf}
 use Rattle.one_holder.proofs.one_if.Statement.{statement}

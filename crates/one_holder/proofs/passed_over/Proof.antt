@@ -1,14 +1,12 @@
 -- `one_holder::passed_over` meets its contract: a rank that is in none of the joined sets is in none of the sets.
 -- Assumes nothing.
 use denote.Ref.{now}
-use mathlib.Core.Path.{_≡_, refl, sym, ap, _∙_}
+use mathlib.Core.Path.{refl, sym, ap, _∙_}
 use mathlib.Core.Logic.{inl, inr}
-use mathlib.Core.Bool.{true, false}
-use Prim.Native.Nat.{ℕ, _+_, _≤_}
+use Prim.Native.Nat.{ℕ}
 use native.Mathlib.Omega.{arith}
-use Rattle.basics.specs.Arrays.{at}
-use Rattle.ranks.specs.Ranks.{member, union, unions}
-use Rattle.one_holder.specs.Gathering.{blockSize, heldBy, block-free}
+use Rattle.ranks.specs.Ranks.{member, union}
+use Rattle.one_holder.specs.Gathering.{block-free}
 use borrow.Author.Needs.{needs}
 use Rattle.one_holder.proofs.passed_over.Statement.{statement}
 use Rattle.one_holder.proofs.passed_over.Tie as tie

@@ -1,6 +1,6 @@
 -- `rule::all_stopped` meets its contract, in each of the two cases.
 -- Assumes nothing.
-use mathlib.Core.Path.{_≡_, sym, ap}
+use mathlib.Core.Path.{sym, ap}
 use Prim.Native.Nat.{_-_}
 use lib.Dec.{ltb, leb}
 use borrow.Author.Tests.{ltb-true}

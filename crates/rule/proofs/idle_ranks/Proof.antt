@@ -1,7 +1,7 @@
 -- `rule::idle_ranks` meets its contract, in each of the three cases.
 -- Assumes nothing.
 use denote.Ref.{now}
-use mathlib.Core.Path.{_≡_, refl, sym, _∙_}
+use mathlib.Core.Path.{refl, sym, _∙_}
 use mathlib.Core.Logic.{inl, inr}
 use native.Mathlib.Omega.{arith}
 use Rattle.rule.specs.WakeLaws.{idle-block}

@@ -2,8 +2,8 @@
 -- ends because what is left of the ranks falls.
 -- Assumes nothing.
 use denote.Ref.{now}
-use mathlib.Core.Path.{_≡_, sym, _∙_}
-use Prim.Native.Nat.{_+_, _-_, _≤_}
+use mathlib.Core.Path.{sym, _∙_}
+use Prim.Native.Nat.{_-_, _≤_}
 use native.Mathlib.Omega.{arith}
 use Rattle.basics.specs.Arrays.{at-next}
 use Rattle.state.specs.State.{mostJobs}
