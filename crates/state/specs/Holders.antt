@@ -2,7 +2,7 @@
 -- grant makes the most urgent holder, and that giving locks up keeps the order.
 -- Assumes nothing.
 use mathlib.Core.Path.{_≡_, refl, sym, subst, ap, _∙_}
-use mathlib.Core.Logic.{_≢_, _⊎_, inl, inr, ⊎-elim}
+use mathlib.Core.Logic.{_≢_, inl, inr}
 use mathlib.Core.Bool.{Bool, true, false, _||_}
 use mathlib.Core.List.{List, []}
 use Prim.Native.Nat.{ℕ, _^_, _≤_, _<_}
@@ -20,9 +20,9 @@ use Rattle.ranks.specs.UnionLaws.{union-left, union-right, union-either, union-
 use Rattle.ranks.specs.FirstLaws.{most-urgent-member, most-urgent-least, most-urgent-is}
 use Rattle.state.specs.declared.Counts.{Counts}
 use Rattle.state.specs.declared.State.{State}
-use Rattle.state.specs.State.{mostJobs, mostObjects, markWords, read, write, ofMode, marked, declared, holders, holds, allHolders, mostUrgentHolder, isCertified, sharesWithNone}
-use Rattle.state.specs.State.{stateOf, grantReaders, grantWriters, releaseReaders, releaseSets, dropMarks, release, endRun}
-use Rattle.state.specs.Weights.{weight, writeWeight, writeCeiling, absoluteCeiling}
+use Rattle.state.specs.State.{mostJobs, mostObjects, markWords, read, write, declared, holders, holds, allHolders, mostUrgentHolder, isCertified, sharesWithNone}
+use Rattle.state.specs.State.{stateOf, grantReaders, grantWriters, releaseReaders, releaseSets, release, endRun}
+use Rattle.state.specs.Weights.{weight, writeCeiling, absoluteCeiling}
 use Rattle.state.specs.WeightLaws.{read-own, write-writer}
 use Rattle.state.specs.Facts.{Sized, In, InOrder, Facts}
 use Rattle.state.specs.WellFormed.{wellFormed}
