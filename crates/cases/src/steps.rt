@@ -134,6 +134,11 @@ fn show_holders(state: State) {
     }
 }
 
+// H: writes the rank that the state carries as its most urgent holder.
+fn show_carried(state: State) {
+    say(b" carries ", state.holder as u64);
+}
+
 // The request of a job that waits for the object: q to read it, v to write it, else to certify it.
 fn request_of(letter: u8, object: u8) -> u16 {
     match letter {
@@ -176,12 +181,16 @@ fn change_job(state: State, letter: u8, rank: u8, object: u8) -> State {
     next
 }
 
-// A change of the state: k certifies the object, e makes the version so much.
-fn change_state(state: State, letter: u8, version: u8, object: u8) -> State {
+// A change of the state: k certifies the object, e makes the version so much, o the rank that is carried as the most urgent holder.
+fn change_state(state: State, letter: u8, number: u8, object: u8) -> State {
     let mut next = state;
+    if letter == b'o' {
+        next.holder = number;
+        return next;
+    }
     if letter == b'e' {
         let mut counts = next.counts;
-        counts.version = version;
+        counts.version = number;
         next.counts = counts;
         return next;
     }
@@ -212,11 +221,12 @@ fn run_step(bytes: &[u8], state: State, letter: u8, rank: u8, object: u8) -> Sta
         b'P' => show_page(state, rank, object),
         b'G' => make_events(state, rank, object),
         b'h' => show_holders(state),
+        b'H' => show_carried(state),
         b'n' | b'i' | b'p' | b'c' => ask(state, letter, rank, object),
         b'+' | b'z' | b'r' | b'w' | b'q' | b'v' | b'm' => {
             return change_job(state, letter, rank, object);
         }
-        b'k' | b'e' => return change_state(state, letter, rank, object),
+        b'k' | b'e' | b'o' => return change_state(state, letter, rank, object),
         _ => return play(state, letter, rank, object),
     }
     state
