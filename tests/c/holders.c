@@ -91,18 +91,6 @@ static void count_carried(const vongselik_state *before, event e, vongselik_answ
     if (done && (e.kind == VONGSELIK_FINISH || e.kind == VONGSELIK_ABANDON)) count_release(ends[version], before, e.rank, a.woken, holder);
 }
 
-/* The job becomes idle and loses its locks; nobody is woken. */
-static void take_out(model *m, int rank)
-{
-    int o;
-    m->active[rank] = m->unlocked[rank] = m->sleeping[rank] = 0;
-    m->wants[rank] = m->wanted_object[rank] = 0;
-    for (o = 1; o <= 128; o++) {
-        if (m->writes[o][rank]) m->certified[o] = 0;
-        m->reads[o][rank] = m->writes[o][rank] = 0;
-    }
-}
-
 /* The model's answer to a request without all jobs but the requester and the carried rank. */
 static vongselik_answer decided_by_one(const vongselik_state *before, event e)
 {
@@ -110,7 +98,7 @@ static vongselik_answer decided_by_one(const vongselik_state *before, event e)
     int r;
     model_from(&m, before);
     for (r = 1; r <= m.jobs; r++)
-        if (r != e.rank && r != m.holder) take_out(&m, r);
+        if (r != e.rank && r != m.holder) model_end_run(&m, r);
     return model_event(&m, e.kind, e.rank, e.object);
 }
 

@@ -344,7 +344,7 @@ static void unlock(model *m, int rank, int object)
     m->unlocked[rank] = 1;
 }
 
-static void end_run(model *m, int rank)
+void model_end_run(model *m, int rank)
 {
     int o;
     m->active[rank] = m->unlocked[rank] = m->sleeping[rank] = 0;
@@ -365,7 +365,7 @@ static vongselik_answer perform(model *m, int kind, int rank, int object)
     case VONGSELIK_SLEEP: m->sleeping[rank] = 1; return a;
     case VONGSELIK_WAKE: m->sleeping[rank] = 0; return a;
     case VONGSELIK_UNLOCK: unlock(m, rank, object); break;
-    default: end_run(m, rank); break;
+    default: model_end_run(m, rank); break;
     }
     a.woken = (uint8_t)wake(m);
     return a;

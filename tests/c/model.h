@@ -39,6 +39,9 @@ int model_disorder(const model *m);
 
 vongselik_answer model_event(model *m, int kind, int rank, int object);
 
+/* The job becomes idle and loses its locks, marks and request; nobody is woken, and the carried rank stays. */
+void model_end_run(model *m, int rank);
+
 /* The questions answer the refusal's number, or 0 and the values. */
 int model_inherited_rank(const model *m, int rank, int *inherited);
 int model_named_lock(const model *m, int rank, int *holder, int *object);
