@@ -257,8 +257,8 @@ static void time_holders(int rounds, const char *many, const char *few)
 
 /* ---- Waiting jobs */
 
-/* The layout where both look at as much. For each waiting job the library looks at the objects up to the first whose lock stops it, which is the last one here,
- * and all are locked: its hardest. The peer looks at every object in any layout. */
+/* The layout in which the library looks at most: it weighs the most urgent waiting job against the locks of the holder, which has all objects, up to the first
+ * that stops it, here the last. The peer looks at every object for each waiting job, in any layout. */
 static const layout hardest = {"the last of 128, all held", 128, 128, 1, 1};
 
 static const int counts[COUNTS] = {0, 8, 32, 63};

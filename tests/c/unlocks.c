@@ -1,4 +1,4 @@
-/* An unlock that tries every waiting job and wakes none: see unlocks.h. */
+/* An unlock while jobs wait that wakes none of them: see unlocks.h. */
 #define _POSIX_C_SOURCE 199309L
 #include "unlocks.h"
 

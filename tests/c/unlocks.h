@@ -1,4 +1,4 @@
-/* An unlock that tries every waiting job and wakes none: the states for it, and many of it. For waiting.c and tools/speed.c, which time it. For page_cost.c
+/* An unlock while jobs wait that wakes none of them: the states for it, and many of it. For waiting.c and tools/speed.c, which time it. For page_cost.c
  * too, which times the state page: events that have to be answered so, and the time. For load_cost.c, which times a test load: the time. */
 #ifndef UNLOCKS_H
 #define UNLOCKS_H

@@ -1,5 +1,5 @@
 /* What an unlock costs by the number of waiting jobs: prints its processor time as a ratio to that with none waiting. Usage: waiting [ROUNDS], 15 rounds.
- * Of 64 jobs, job 64 holds the lock that stops all waiting jobs, and gives up another one: the search tries each of them and wakes none (unlocks.c). */
+ * Of 64 jobs, job 64 holds the lock that stops all waiting jobs, and gives up another one: the search wakes none of them (unlocks.c). */
 #include <stdio.h>
 #include <stdlib.h>
 
