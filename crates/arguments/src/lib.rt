@@ -1,4 +1,5 @@
 // Numbers in a program's arguments, in decimal.
+#![tactic(auto)]
 ghost use Rattle.std.specs.Prelude.{◌≡◌, true, length};
 ghost use Rattle.arguments.specs.Numbers as N;
 

@@ -1,4 +1,5 @@
 // Writes the bench record of standard input, a table and then events, to standard output.
+#![tactic(auto)]
 fn main() {
     let mut input = [0; 32768];
     let mut lines = [0; 491610];

@@ -1,5 +1,6 @@
 // Runs the bench on each file that an argument names, in parts of one byte, of five, and as large as they come; then on an input that is longer
 // than its buffer, where no record, where no failure can be written, and where standard input is closed. Each run's record is followed by how it ended.
+#![tactic(auto)]
 use libc::{STDIN_FILENO, STDOUT_FILENO};
 use recorder::{Ended, InputBuffer, RecordBuffer, Recorded};
 

@@ -1,5 +1,6 @@
 // Changes of a state's parts, in place: a lock given, locks given up, objects certified no more, a request stored.
-ghost use Rattle.std.specs.Prelude.{◌≡◌, ℕ, ◌+◌, ◌≤◌, ◌<◌};
+#![tactic(auto)]
+ghost use Rattle.std.specs.Prelude.{◌≡◌, ◌+◌, ◌≤◌};
 ghost use Rattle.basics.specs.Arrays.{at, put};
 ghost use Rattle.ranks.specs.Ranks as R;
 ghost use Rattle.state.specs.State.{most_jobs, most_objects, most_urgent_holder, mode_of_request, object_of_request, mark, grant_readers, grant_writers, grant_marks, release_readers, release_sets, kept_in, drop_marks};
@@ -60,15 +61,14 @@ pub fn release(unlocked: &mut RankSet, readers: SetsMut, rank: u8, object: u8)
     readers[i] = ranks::without(readers[i], rank);
 }
 
-// Takes the rank out of every set, where those behind the table's objects are empty. The ranks that are left in them, all together.
-pub fn release_sets(sets: SetsMut, objects: u8, rank: u8) -> RankSet
-    requires { (objects ≤ most_objects) × ((o : ℕ) → objects < o → at sets.now o ≡ 0) × (1 ≤ rank) × (rank ≤ most_jobs) }
+// Takes the rank out of every set. The ranks that are left in them, all together.
+pub fn release_sets(sets: SetsMut, rank: u8) -> RankSet
+    requires { (1 ≤ rank) × (rank ≤ most_jobs) }
     ensures { (sets.exit.now ≡ release_sets rank sets.entry.now) × (result ≡ R.unions most_objects (λ o. R.without (at sets.entry.now o) rank)) }
 {
-    let most = objects as usize;
     let mut left = ranks::EMPTY;
     let mut i: usize = 0;
-    while i < most {
+    while i < 128 {
         let kept = ranks::without(sets[i], rank);
         sets[i] = kept;
         left = ranks::union(left, kept);

@@ -1,4 +1,5 @@
 // Bytes read from a file descriptor, behind those that are held.
+#![tactic(auto)]
 ghost use Rattle.std.specs.Prelude.{◌≡◌, ◌+◌, ◌<◌, min, max, length};
 ghost use Rattle.descriptors.specs.Reading.{part_of, Came};
 

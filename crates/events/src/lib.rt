@@ -1,4 +1,5 @@
 // Events in a well-formed state, on its parts, in place: one small function for each rule, with its refusals. And an answer packed into a number.
+#![tactic(auto)]
 ghost use Rattle.std.specs.Prelude.{◌≡◌, List, ℕ, ◌≤◌};
 ghost use Rattle.state.specs.State.{most_jobs, most_objects, certify, state_of};
 ghost use Rattle.state.specs.Holders.{HolderFacts, held_state};
@@ -277,8 +278,8 @@ fn end_run<'a>(
     *unlocked = ranks::without(*unlocked, rank);
     *sleeping = ranks::without(*sleeping, rank);
     drop_marks(certified, writers, rank);
-    let reading = release_sets(readers, counts.objects, rank);
-    let writing = release_sets(writers, counts.objects, rank);
+    let reading = release_sets(readers, rank);
+    let writing = release_sets(writers, rank);
     *holder = ranks::most_urgent(ranks::union(reading, writing));
     store_request(request, rank, 0);
     wake(

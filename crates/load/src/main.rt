@@ -1,4 +1,5 @@
 // Writes a test load to standard output: so many events, from a seed and a count that are its two arguments, on the table of standard input.
+#![tactic(auto)]
 fn main() {
     let mut table = [0; 32768];
     let mut events = [0; 65535];

@@ -1,5 +1,6 @@
 // Runs the load on the seeds, counts and tables that the arguments name, with the bench on the table and the load behind it, then the load where nothing can
 // be written, and one of three parts beside the same one made at once. Each load is followed by how it ended.
+#![tactic(auto)]
 ghost use Rattle.std.specs.Prelude.{◌<◌};
 
 use basics::smaller;

@@ -1,4 +1,5 @@
 // Writes a test load: a seed and a count from two texts, the table from one file descriptor, the events to another, part by part.
+#![tactic(auto)]
 ghost use Rattle.std.specs.Prelude.{◌≡◌, true, ◌*◌, ◌≤◌, length};
 ghost use Rattle.state.specs.WellFormed.{well_formed};
 ghost use Rattle.table_bytes.specs.Decided.{longest_table};

@@ -1,16 +1,14 @@
 -- A request decided from the locks of the most urgent holder (02, CR 9): the definitions. OneHolderLaws shows that this is the full reading of all locks.
 -- Assumes nothing.
-use Rattle.std.specs.Prelude.{◌≡◌, refl, List, ◌≢◌, Bool, false, ◌||◌, ℕ, ◌+◌, min, eqb, ltb, get_or}
+use Rattle.std.specs.Prelude.{◌≡◌, refl, List, ◌≢◌, Bool, false, ◌||◌, ℕ, ◌-◌, ◌≤◌, min, eqb, ltb, get_or}
 use Rattle.std.proofs.Common.{sym, eq-eqb, ne_eqb}
-use Rattle.basics.specs.Arrays.{at, at_next}
+use Rattle.basics.specs.Arrays.{at_index}
 use Rattle.basics.specs.Choice.{if◌then◌else◌}
 use Rattle.basics.specs.Loops.{least}
-use Rattle.ranks.specs.Ranks.{member, with, disjoint, up_to}
 use Rattle.state.specs.declared.Counts.{Counts}
 use Rattle.state.specs.declared.State.{State}
 use Rattle.state.specs.State.{read, write, marked, holders}
 use Rattle.state.specs.Weights.{more_urgent, ceiling_of, weight}
-use Rattle.state.specs.WeightLaws.{weighing_of}
 use Rattle.weights.specs.Keys.{no_key, key_weight}
 use Rattle.weights.specs.ObjectKeys.{held_key, writers_weight}
 use Rattle.weights.specs.Parts.{locks_state}
@@ -47,25 +45,9 @@ abbrev pub own_key : Counts → Bool → ℕ → ℕ → ℕ → ℕ → ℕ →
 own_key c none readers writers may_read may_write o h =
     min (held_key readers (more_urgent (ceiling_of c may_write) h) o h) (held_key writers (writers_weight c none may_read may_write) o h)
 
--- at a place, which counts from 0
-pub own_key_there : (counts : Counts) (may_read may_write readers writers certified : List ℕ) (h p : ℕ)
-    → holder_key_at (locks_state counts may_read may_write readers writers certified) h (p + 1)
-    ≡ own_key counts (eqb counts.version 1 || marked certified (p + 1)) (get_or readers p 0) (get_or writers p 0) (get_or may_read p 0) (get_or may_write p 0) (p + 1) h
+pub own_key_there : (counts : Counts) (may_read may_write readers writers certified : List ℕ) (h o : ℕ) → 1 ≤ o
+    → holder_key_at (locks_state counts may_read may_write readers writers certified) h o
+    ≡ own_key counts (eqb counts.version 1 || marked certified o) (get_or readers (o - 1) 0) (get_or writers (o - 1) 0) (get_or may_read (o - 1) 0) (get_or may_write (o - 1) 0) o h
 unfolding weight
-own_key_there counts may_read may_write readers writers certified h p =
-    rw (sym (at_next readers p), sym (at_next writers p), sym (at_next may_read p), sym (at_next may_write p)) refl
-
--- the ranks whose most urgent one is what h's lock on an object weighs, by the object's sets and whether its write lock shares with none: those that a write lock
--- weighs by, if it has that; of a read lock those declared to write the object, and h, the cap
-abbrev pub weighed_by : Bool → (writers may_read may_write h : ℕ) → ℕ
-weighed_by none writers may_read may_write h = if member writers h then weighing_of none may_read may_write else with may_write h
-
--- j is more urgent than h's lock on o, if it has one: none of these ranks is j or more urgent (PassingLaws)
-abbrev pub passes_lock : (version : ℕ) (may_read may_write writers certified : List ℕ) (o h j : ℕ) → Bool
-passes_lock version may_read may_write writers certified o h j =
-    disjoint (weighed_by (eqb version 1 || marked certified o) (at writers o) (at may_read o) (at may_write o) h) (up_to j)
-
-pub passes_lock_there : (version : ℕ) (may_read may_write writers certified : List ℕ) (p h j : ℕ)
-    → passes_lock version may_read may_write writers certified (p + 1) h j
-    ≡ disjoint (weighed_by (eqb version 1 || marked certified (p + 1)) (get_or writers p 0) (get_or may_read p 0) (get_or may_write p 0) h) (up_to j)
-passes_lock_there version may_read may_write writers certified p h j = rw (sym (at_next writers p), sym (at_next may_read p), sym (at_next may_write p)) refl
+own_key_there counts may_read may_write readers writers certified h o low =
+    rw (sym (at_index readers o low), sym (at_index writers o low), sym (at_index may_read o low), sym (at_index may_write o low)) refl

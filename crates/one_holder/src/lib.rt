@@ -1,4 +1,5 @@
 // The locks of one holder, and the most urgent holder's deciding a request (02, CR 9).
+#![tactic(auto)]
 ghost use Rattle.std.specs.Prelude.{◌≡◌, ◌⊎◌, false, ◌||◌, ℕ, ◌+◌, ◌≤◌, ◌<◌, eqb};
 ghost use Rattle.basics.specs.Choice.{if◌then◌else◌};
 ghost use Rattle.basics.specs.Loops.{one_if};
@@ -6,17 +7,17 @@ ghost use Rattle.state.specs.State.{most_jobs, most_objects, marked};
 ghost use Rattle.state.specs.Holders.{held_state};
 ghost use Rattle.weights.specs.Keys.{lock_key, no_key};
 ghost use Rattle.weights.specs.Parts.{locks_state};
-ghost use Rattle.one_holder.specs.OneHolder.{own_key, holder_key_at, holder_key, key_against, deciding_key, weighed_by, passes_lock};
-ghost use Rattle.one_holder.specs.Gathering.{block_size, held_by, LocksTo, LocksOf};
+ghost use Rattle.one_holder.specs.OneHolder.{own_key, holder_key_at, holder_key, key_against, deciding_key};
+ghost use Rattle.one_holder.specs.Gathering.{block_size, held_by, LocksOf};
 
 use ranks::RankSet;
-use state::{Counts, ObjectMarks, Sets, union_of, weighing};
+use state::{Counts, ObjectMarks, Sets, union_of};
 use weights::{NO_KEY, ceiling, lock_key, lower, more_urgent, write_weight};
 
-// Objects by their places in the arrays of a state, which count from 0: the first so many of a list.
+// Objects, the first so many of a list.
 #[derive(Drop)]
 pub struct Locked {
-    pub places: [u8; 128],
+    pub objects: [u8; 128],
     pub count: usize,
 }
 
@@ -39,72 +40,30 @@ fn one_if(test: bool) -> usize
     if test { 1 } else { 0 }
 }
 
-// Puts the object at an index behind the first so many of a list, and counts it if the rank has locked it. How many there are then.
-fn gather_one<'a>(
-    places: &mut [u8; 128],
-    count: usize,
-    readers: Sets<'a>,
-    writers: Sets<'a>,
-    i: usize,
-    rank: u8,
-) -> usize
-    requires { (count ≤ i) × (i < most_objects) × (1 ≤ rank) × (rank ≤ most_jobs) }
-    ensures { (result ≤ count + 1) × ((objects : ℕ) → i < objects → LocksTo readers.entry.now writers.entry.now rank objects i places.old count
-        → LocksTo readers.entry.now writers.entry.now rank objects (i + 1) places.new result) }
-{
-    let held = ranks::contains(ranks::union(readers[i], writers[i]), rank);
-    places[count] = i as u8;
-    count + one_if(held)
-}
-
-// The same of the eight objects from an index on.
-fn gather_block<'a>(
-    places: &mut [u8; 128],
-    count: usize,
-    readers: Sets<'a>,
-    writers: Sets<'a>,
-    from: usize,
-    rank: u8,
-) -> usize
-    requires { (count ≤ from) × (from + block_size ≤ most_objects) × (1 ≤ rank) × (rank ≤ most_jobs) }
-    ensures { (result ≤ count + block_size) × ((objects : ℕ) → from + block_size ≤ objects → LocksTo readers.entry.now writers.entry.now rank objects from places.old count
-        → LocksTo readers.entry.now writers.entry.now rank objects (from + block_size) places.new result) }
-{
-    let mut gathered = count;
-    let mut k: usize = 0;
-    while k < 8 {
-        gathered = gather_one(places, gathered, readers, writers, from + k, rank);
-        k += 1;
-    }
-    gathered
-}
-
-// The objects of the table that the rank has locked; none where the rank is 0, nobody. Eight that begin a block are looked at together, and one by one where the rank
-// has some of them.
+// The objects of the table that the rank has locked; none where the rank is 0, nobody.
 pub fn locked_by<'a>(counts: Counts, readers: Sets<'a>, writers: Sets<'a>, rank: u8) -> Locked
     requires { (counts.objects ≤ most_objects) × (rank ≤ most_jobs) }
-    ensures { LocksOf readers.entry.now writers.entry.now rank counts.objects result.places result.count }
+    ensures { LocksOf readers.entry.now writers.entry.now rank counts.objects result.objects result.count }
 {
     let most = counts.objects as usize;
-    let mut places: [u8; 128] = [0; 128];
+    let mut objects: [u8; 128] = [0; 128];
     let mut count: usize = 0;
     if rank == 0 {
-        return Locked { places, count };
+        return Locked { objects, count };
     }
     let mut i: usize = 0;
     while i < most {
         let free = passed_over(readers, writers, i, rank);
         if free != 0 {
             i += free;
-        } else if i + 8 <= most {
-            count = gather_block(&mut places, count, readers, writers, i, rank);
-            i += 8;
         } else {
-            count = gather_one(&mut places, count, readers, writers, i, rank);
+            let held = ranks::contains(ranks::union(readers[i], writers[i]), rank);
+            objects[count] = (i + 1) as u8;
+            count += one_if(held);
             i += 1;
         }
     }
-    Locked { places, count }
+    Locked { objects, count }
 }
 
 // The key of the holder's lock on the object if it has that lock, by what the lock weighs; else no lock's.
@@ -145,21 +104,21 @@ fn own_key(
     )
 }
 
-// The same of an object by its place.
-fn own_key_at<'a>(
+// The same of an object by its number.
+pub fn own_key_at<'a>(
     counts: Counts,
     may_read: Sets<'a>,
     may_write: Sets<'a>,
     readers: Sets<'a>,
     writers: Sets<'a>,
     certified: &'a ObjectMarks,
-    place: u8,
+    object: u8,
     holder: u8,
 ) -> u64
-    requires { (place < most_objects) × (1 ≤ holder) × (holder ≤ most_jobs) }
-    ensures { result ≡ holder_key_at (locks_state counts may_read.entry.now may_write.entry.now readers.entry.now writers.entry.now certified.now) holder (place + 1) }
+    requires { (1 ≤ object) × (object ≤ most_objects) × (1 ≤ holder) × (holder ≤ most_jobs) }
+    ensures { result ≡ holder_key_at (locks_state counts may_read.entry.now may_write.entry.now readers.entry.now writers.entry.now certified.now) holder object }
 {
-    let i = place as usize;
+    let i = (object - 1) as usize;
     own_key(
         counts,
         certified,
@@ -167,7 +126,7 @@ fn own_key_at<'a>(
         writers[i],
         may_read[i],
         may_write[i],
-        place + 1,
+        object,
         holder,
     )
 }
@@ -196,7 +155,7 @@ pub fn holder_key<'a>(
             readers,
             writers,
             certified,
-            locked.places[i],
+            locked.objects[i],
             holder,
         );
         lowest = lower(lowest, key);
@@ -232,51 +191,4 @@ pub fn deciding_key<'a>(
     holder_key(
         counts, may_read, may_write, readers, writers, certified, holder,
     )
-}
-
-// The ranks whose most urgent one is what the holder's lock on an object with these sets weighs: of a read lock those declared to write the object, and the holder.
-fn weighed_by(
-    version: u8,
-    certified: &ObjectMarks,
-    writers: RankSet,
-    may_read: RankSet,
-    may_write: RankSet,
-    object: u8,
-    holder: u8,
-) -> RankSet
-    requires { (1 ≤ object) × (object ≤ most_objects) × (1 ≤ holder) × (holder ≤ most_jobs) }
-    ensures { result ≡ weighed_by (eqb version 1 || marked certified.now object) writers may_read may_write holder }
-{
-    if ranks::contains(writers, holder) {
-        weighing(version, certified, may_read, may_write, object)
-    } else {
-        ranks::with(may_write, holder)
-    }
-}
-
-// Whether the rank is more urgent than the lock that the holder has on the object at a place.
-pub fn passes_lock<'a>(
-    version: u8,
-    may_read: Sets<'a>,
-    may_write: Sets<'a>,
-    writers: Sets<'a>,
-    certified: &'a ObjectMarks,
-    place: u8,
-    holder: u8,
-    rank: u8,
-) -> bool
-    requires { (place < most_objects) × (1 ≤ holder) × (holder ≤ most_jobs) × (rank ≤ most_jobs) }
-    ensures { result ≡ passes_lock version may_read.entry.now may_write.entry.now writers.entry.now certified.now (place + 1) holder rank }
-{
-    let i = place as usize;
-    let set = weighed_by(
-        version,
-        certified,
-        writers[i],
-        may_read[i],
-        may_write[i],
-        place + 1,
-        holder,
-    );
-    ranks::is_empty(ranks::common(set, ranks::up_to(rank)))
 }

@@ -1,4 +1,5 @@
 // Sets of ranks as numbers of one word: rank r is bit r - 1.
+#![tactic(auto)]
 ghost use Rattle.std.specs.Prelude.{◌≡◌, ◌≤◌};
 ghost use Rattle.ranks.specs.Ranks as R;
 

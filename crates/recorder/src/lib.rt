@@ -1,4 +1,5 @@
 // Writes the bench record of what comes on one file descriptor to another, part by part, as it comes.
+#![tactic(auto)]
 ghost use Rattle.std.specs.Prelude.{◌≡◌, ◌+◌, ◌*◌, ◌-◌, ◌^◌, ◌≤◌, ◌<◌, length, take, drop};
 ghost use Rattle.table_bytes.specs.Decided.{longest_table};
 ghost use Rattle.decimals.specs.Laid.{Laid};

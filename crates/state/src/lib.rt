@@ -1,4 +1,5 @@
 // The lock manager's state, and questions about its parts. Ranks and objects count from 1; rank 1 is the most urgent.
+#![tactic(auto)]
 mod limits;
 mod marks;
 mod parts;
@@ -37,12 +38,12 @@ pub type SetsMut<'a> = &'a mut ObjectSets;
 pub struct State {
     pub counts: Counts,
     pub processor_of: JobProcessors,
-    pub holder: u8,
     pub may_read: ObjectSets,
     pub may_write: ObjectSets,
     pub active: RankSet,
     pub unlocked: RankSet,
     pub sleeping: RankSet,
+    pub holder: u8,
     pub readers: ObjectSets,
     pub writers: ObjectSets,
     pub certified: ObjectMarks,

@@ -1,4 +1,5 @@
 // Table bytes: where their parts stand, and the refusals 1 to 7.
+#![tactic(auto)]
 mod bytes;
 mod table_refusals;
 

@@ -1,1 +1,2 @@
 // The theory of demand 3: its words, an abstract lock manager, and the proof; there are no functions.
+#![tactic(auto)]

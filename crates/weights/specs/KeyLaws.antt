@@ -6,7 +6,7 @@ use Rattle.std.proofs.Math.Path.{refl}
 use Rattle.std.proofs.Common.{ap, ◌∙◌, le_antisymm, arith}
 use Rattle.std.proofs.Math.Logic.{inl, inr}
 use Rattle.std.proofs.Math.Bool.{true, false, not}
-use Prim.Native.Nat.{ℕ, ◌≤◌, min}
+use Prim.Native.Nat.{ℕ, ◌≤◌, ◌<◌, min}
 use Rattle.std.proofs.Math.Nat.{le_trans}
 use Rattle.std.proofs.Math.Decide.{dec_le}
 use Rattle.std.proofs.Math.Dec.{eqb}
@@ -16,7 +16,7 @@ use Rattle.basics.specs.Loops.{least, least_top, least-le, least_at}
 use Rattle.state.specs.declared.State.{State}
 use Rattle.state.specs.State.{most_jobs, most_objects, read, write, holds}
 use Rattle.state.specs.Modes.{Mode}
-use Rattle.weights.specs.Keys.{lock_key, no_key, key_weight, Weigh, others_key, object_key, lowest_key_by}
+use Rattle.weights.specs.Keys.{lock_key, no_key, key_weight, key_holder, key_object, Weigh, others_key, object_key, lowest_key_by}
 
 -- r, another job than j, holds a lock on o in mode m
 pub record OthersLock (s : State) (j m r o : ℕ) : Type 0 where
@@ -124,6 +124,22 @@ module _ (weigh : Weigh) (s : State) (j : ℕ) where
       go : (lowest_key_by weigh s j ≡ no_key) ⊎ KeyOfOther (lowest_key_by weigh s j) → n ≤ lowest_key_by weigh s j
       go (inl z) = omega arith
       go (inr w) = omega (arith, w.is, each w.mode w.holder w.object w.lock)
+
+  -- a key below no_key is of a rank and an object of the state, which a function may then look up
+  pub key_in_range : s.counts.objects ≤ most_objects → lowest_key_by weigh s j < no_key
+      → ((1 ≤ key_holder (lowest_key_by weigh s j)) × (key_holder (lowest_key_by weigh s j) ≤ most_jobs))
+      × ((1 ≤ key_object (lowest_key_by weigh s j)) × (key_object (lowest_key_by weigh s j) ≤ s.counts.objects))
+  key_in_range few below = go (lowest_key_by weigh s j) below key_at
+    where
+      go : (k : ℕ) → k < no_key → (k ≡ no_key) ⊎ KeyOfOther k
+          → ((1 ≤ key_holder k) × (key_holder k ≤ most_jobs)) × ((1 ≤ key_object k) × (key_object k ≤ s.counts.objects))
+      go k l (inl z) = absurd (omega arith)
+      go k l (inr w) =
+          let rank = w.lock.rank in
+          let object = w.lock.object in
+          let holder_is : key_holder k ≡ w.holder = omega (arith, w.is) in
+          let object_is : key_object k ≡ w.object = omega (arith, w.is) in
+          ((omega arith, omega arith), (omega arith, omega arith))
 
 -- ---- two rules of weighing
 

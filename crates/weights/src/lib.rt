@@ -1,5 +1,6 @@
 // Ceilings, what a lock weighs, and the key that orders locks: the lock that stops a request has the lowest.
 // A function sees the parts of a state that it asks about: an object's sets of ranks by value, an object's array by reference.
+#![tactic(auto)]
 ghost use Rattle.std.specs.Prelude.{◌≡◌, ◌||◌, ℕ, ◌≤◌, min, eqb};
 ghost use Rattle.ranks.specs.Ranks.{first, union};
 ghost use Rattle.state.specs.State.{most_jobs, most_objects, marked};
@@ -83,6 +84,10 @@ pub fn write_weight(
     requires { (1 ≤ object) × (object ≤ most_objects) }
     ensures { result ≡ O.writers_weight counts (eqb counts.version 1 || marked certified.now object) may_read may_write }
 {
-    let declared = state::weighing(counts.version, certified, may_read, may_write, object);
+    let declared = if state::shares_with_none(counts.version, certified, object) {
+        ranks::union(may_read, may_write)
+    } else {
+        may_write
+    };
     ceiling(counts, declared)
 }

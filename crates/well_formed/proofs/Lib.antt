@@ -1,2 +1,4 @@
 pub mod WaitLaws
+pub mod OrderLaws
 pub mod SurveyLaws
+pub mod MarkLaws

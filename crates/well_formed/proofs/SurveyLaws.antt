@@ -1,8 +1,9 @@
 -- What the code gathers of the objects says of each clause of a well-formed state: the joined sets are empty, or lie in a set,
--- if and only if each object's do; and the holders that it gathers are all there are (of one object, and their order: BlockLaws and OrderLaws of `well_formed_locks`).
+-- if and only if each object's do; and the holders that it gathers are all there are (their order: OrderLaws).
 -- Assumes nothing.
-use mathlib.Core.Path.{◌≡◌, refl, sym, ap, ◌∙◌}
+use mathlib.Core.Path.{◌≡◌, refl, sym, ap, ap₂, ◌∙◌}
 use mathlib.Core.Bool.{Bool, true, false, not, ◌&&◌, ◌||◌}
+use mathlib.Core.List.{List}
 use Prim.Native.Nat.{ℕ, ◌+◌, ◌-◌, ◌^◌, ◌≤◌, ◌<◌}
 use native.Mathlib.Omega.{arith}
 use native.Mathlib.Decide.{dec_le}
@@ -10,20 +11,79 @@ use lib.Dec.{eqb}
 use lib.Bits.{bit_and, and_zero_l, and_zero_r, or_zero_r}
 use borrow.Author.Tests.{eqb-true, eq-eqb, ltb-true}
 use Rattle.basics.specs.Choice.{clash, same_test, and_true, and_left, and_right, or_right, between_true, inside_between}
-use Rattle.basics.specs.Loops.{every, every-at, every_true}
+use Rattle.basics.specs.Loops.{every, every-at, every_true, every_split}
 use Rattle.basics.specs.Arrays.{at}
-use Rattle.ranks.specs.Ranks.{is_empty, most_urgent, union, subset, disjoint, at_most_one, up_to, unions}
-use Rattle.ranks.specs.UnionLaws.{empty_union, unions_split, unions_empty, unions-subset, subset-union, subset-up_to, subset-le}
+use Rattle.ranks.specs.Ranks.{word_bits, is_empty, most_urgent, union, common, minus, subset, disjoint, at_most_one, up_to, less_one, unions}
+use Rattle.ranks.specs.UnionLaws.{empty_union, empty_minus, unions_both, unions_split, unions_empty, unions-subset, subset-union, subset-up_to, subset-le, empty_at_most_one}
+use Rattle.ranks.specs.LessOneLaws.{less_one_alone, less_one-at_most_one}
 use Rattle.state.specs.declared.State.{State}
-use Rattle.well_formed_locks.specs.declared.locks.Survey.{Survey}
+use Rattle.well_formed.specs.declared.locks.Survey.{Survey}
 use Rattle.state.specs.State.{most_jobs, most_objects, read, write, is_object, declared, declared_any, holders, holders_any, all_holders, is_certified}
 use Rattle.state.specs.WellFormed.{counts_fit, processors_fit, declaration_fits, declarations_fit, of_jobs, declared_of_jobs, above_idle, held_by_active, held_by_right, locks_fit}
 use Rattle.state.specs.WellFormed.{locked_once, alone, written_alone, one_lock_each, writers_alone, waits_fit, marks_fit, version_fits, certify_fits, certifies_fit, waits_awake, sleepers_fit, holder_fits, holders_in_order, well_formed}
 use Rattle.state.specs.Clauses.{Clauses, clauses, well_formed_lem, counts_within_lem}
 use Rattle.well_formed.proofs.WaitLaws.{marks_joined, waits_joined}
-use Rattle.well_formed_locks.specs.OrderLaws.{ordered_clause}
-use Rattle.well_formed_locks.specs.BlockLaws.{unlocked_in_order}
-use Rattle.well_formed_locks.specs.Survey.{apart, in_order, in_blocks, object_in_order, all_of, Surveyed, certifiable, certified_well, object_ordered}
+use Rattle.well_formed.proofs.OrderLaws.{ordered_clause}
+use Rattle.well_formed.specs.Survey.{apart, in_order, block_size, in_blocks, object_in_order, held_on, all_of, Surveyed, certifiable, certified_well, object_ordered}
+
+-- ---- one object
+
+-- nothing is wrong with how the object is shared if and only if its locks are apart: a set less one tells whether a write lock is alone
+pub alone_apart : (rd wr : ℕ) → rd < 2 ^ word_bits
+    → is_empty (union (minus rd (less_one wr)) (common wr (less_one (union rd wr)))) ≡ apart true rd wr
+alone_apart rd wr h =
+    empty_union (minus rd (less_one wr)) (common wr (less_one (union rd wr)))
+    ∙ ap (λ (t : Bool). t && is_empty (common wr (less_one (union rd wr)))) (empty_minus rd (less_one wr))
+    ∙ less_one_alone rd wr h
+
+pub shared_apart : (rd wr : ℕ) → is_empty (union (common rd wr) (common wr (less_one wr))) ≡ apart false rd wr
+shared_apart rd wr = empty_union (common rd wr) (common wr (less_one wr)) ∙ ap (λ (t : Bool). disjoint rd wr && t) (less_one-at_most_one wr)
+
+-- an object without locks is in order
+pub unlocked_in_order : (none : Bool) (mr mw rd wr : ℕ) → rd ≡ 0 → wr ≡ 0 → in_order none mr mw rd wr ≡ true
+unlocked_in_order none mr mw rd wr r w =
+    ap₂ (in_order none mr mw) r w
+    ∙ and_true (subset 0 mr && subset 0 mw) (apart none 0 0)
+    (and_true (subset 0 mr) (subset 0 mw) (eq-eqb (bit_and 0 mr) 0 (and_zero_l mr)) (eq-eqb (bit_and 0 mw) 0 (and_zero_l mw))) (apart_none none)
+  where
+    apart_none : (b : Bool) → apart b 0 0 ≡ true
+    apart_none true = and_true (at_most_one 0) (is_empty 0 || is_empty 0) empty_at_most_one refl
+    apart_none false = and_true (disjoint 0 0) (at_most_one 0) (eq-eqb (bit_and 0 0) 0 (and_zero_l 0)) empty_at_most_one
+
+-- ---- a block of objects more, behind the first i
+
+module _ (none : Bool) (mr mw rd wr : List ℕ) (i : ℕ) where
+  abbrev order : ℕ → Bool
+  order = object_in_order mr mw rd wr none
+
+  -- the locks of the block
+  abbrev pub block_locks : ℕ
+  block_locks = union (unions block_size (λ k. at rd (i + k))) (unions block_size (λ k. at wr (i + k)))
+
+  block_each : block_locks ≡ unions block_size (λ k. held_on mr mw rd wr (i + k))
+  block_each = unions_both block_size (λ k. at rd (i + k)) (λ k. at wr (i + k))
+
+  pub held_more : union (unions i (held_on mr mw rd wr)) block_locks ≡ unions (i + block_size) (held_on mr mw rd wr)
+  held_more = ap (union (unions i (held_on mr mw rd wr))) block_each ∙ unions_split i block_size (held_on mr mw rd wr)
+
+  pub order_more : (wrong block : ℕ) → is_empty wrong ≡ every i order → is_empty block ≡ every block_size (λ k. order (i + k))
+      → is_empty (union wrong block) ≡ every (i + block_size) order
+  order_more wrong block e f = empty_union wrong block ∙ ap₂ ◌&&◌ e f ∙ sym (every_split i block_size order)
+
+  -- a block without locks is in order
+  pub unlocked_more : (wrong : ℕ) → is_empty wrong ≡ every i order → block_locks ≡ 0 → is_empty wrong ≡ every (i + block_size) order
+  unlocked_more wrong e no_lock =
+      ap is_empty (sym (or_zero_r wrong)) ∙ order_more wrong 0 e (sym (every_true block_size (λ k. order (i + k)) in_order))
+    where
+      all : every block_size (λ k. is_empty (held_on mr mw rd wr (i + k))) ≡ true
+      all = sym (unions_empty block_size (λ k. held_on mr mw rd wr (i + k))) ∙ ap is_empty (sym block_each) ∙ eq-eqb block_locks 0 no_lock
+
+      in_order : (k : ℕ) → 1 ≤ k → k ≤ block_size → order (i + k) ≡ true
+      in_order k a b =
+          let both = sym (empty_union (at rd (i + k)) (at wr (i + k))) ∙ every-at block_size (λ k. is_empty (held_on mr mw rd wr (i + k))) k all a b in
+          unlocked_in_order none (at mr (i + k)) (at mw (i + k)) (at rd (i + k)) (at wr (i + k))
+          (eqb-true (at rd (i + k)) 0 (and_left (is_empty (at rd (i + k))) (is_empty (at wr (i + k))) both))
+          (eqb-true (at wr (i + k)) 0 (and_right (is_empty (at rd (i + k))) (is_empty (at wr (i + k))) both))
 
 -- ---- what the clauses ask of one object
 

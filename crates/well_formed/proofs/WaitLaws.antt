@@ -1,146 +1,75 @@
--- What the test of a waiting job comes to: what it may ask for, in each mode by one look into a set worked out from the object's sets; then the whole, by
--- whether the object of its request is one of the table.
+-- What the test of a waiting job comes to: what it may ask for, then the whole, once the mode and the object of its request are known to be in range.
 -- Then that the test, made with the sleepers among those that have unlocked, says that waiting jobs are awake too.
 -- Assumes nothing.
 use mathlib.Core.Path.{◌≡◌, refl, sym, ap, ap₂, ◌∙◌}
-use mathlib.Core.Logic.{◌≢◌, ◌⊎◌, inl, inr}
+use mathlib.Core.Logic.{◌≢◌}
 use mathlib.Core.Bool.{Bool, true, false, not, ◌&&◌, ◌||◌}
 use Prim.Native.Nat.{ℕ, suc, ◌+◌, ◌-◌, ◌≤◌}
 use native.Mathlib.Omega.{arith}
-use native.Mathlib.Decide.{ℕ_discrete, dec_le}
-use lib.Dec.{eqb}
 use lib.ListN.{get_or}
 use borrow.Author.Tests.{eq-eqb, ne_eqb}
-use Rattle.basics.specs.Choice.{between, between_true, inside_between}
+use Rattle.basics.specs.Choice.{if◌then◌else◌, between}
 use Rattle.basics.specs.Arrays.{at, at_index}
 use Rattle.basics.specs.Loops.{every, every_same, every-and}
 use Rattle.state.specs.declared.State.{State}
-use Rattle.ranks.specs.Ranks.{member, union, common, minus}
-use Rattle.ranks.specs.RankLaws.{member-common, member-minus}
+use Rattle.ranks.specs.Ranks.{member, union}
 use Rattle.ranks.specs.UnionLaws.{member_union}
-use Rattle.state.specs.State.{most_jobs, read, write, certify, of_mode, already_in, strongest, is_certified, is_object, is_active, has_unlocked, is_sleeping, is_waiting, may_lock, holds_already}
+use Rattle.state.specs.State.{most_jobs, certify, of_mode, strongest, is_certified, is_object, is_active, has_unlocked, is_sleeping, is_waiting, may_lock, holds_already}
 use Rattle.state.specs.State.{request_of, mode_of_request, object_of_request, requested_mode, requested_object, with_locks}
 use Rattle.state.specs.WellFormed.{holds_before, may_await, wait_fits, waits_fit, waits_awake}
-use Rattle.well_formed.specs.Asking.{may_ask}
+use Rattle.well_formed.specs.Survey.{may_ask}
 
--- ---- what a rank may ask for: in each mode one look into one set
+-- ---- what a rank may ask for, by its right, its own lock in that mode, its write lock and the object's mark
 
-and_yes : (b : Bool) → b ≡ b && true
-and_yes true = refl
-and_yes false = refl
+abbrev Asks : (asks_certify right same written certified : Bool) → Bool
+Asks asks_certify right same written certified =
+    right && not (if asks_certify then written && certified else (same || written)) && (not asks_certify || written)
 
-module _ (v free r mr mw rd wr : ℕ) (certified : Bool) (low : 1 ≤ v) (high : v ≤ 2) where
-  pub may_read : (m : ℕ) → m ≡ read → member (minus (common free mr) (union rd wr)) r ≡ may_ask v m free r mr mw rd wr certified
-  may_read m e =
-      member-minus (common free mr) (union rd wr) r ∙ ap₂ (λ (a b : Bool). a && not b) (member-common free mr r) (member_union rd wr r)
-      ∙ and_yes (member free r && member mr r && not (member rd r || member wr r))
-      ∙ ap (λ (b : Bool). b && member free r && member mr r && not (member rd r || member wr r) && true) (sym (inside_between read (strongest v) read (omega arith) (omega arith)))
-      ∙ ap (λ (n : ℕ). may_ask v n free r mr mw rd wr certified) (sym e)
+certify_asks : (right same written certified : Bool) → right && written && not certified ≡ Asks true right same written certified
+certify_asks false same written certified = refl
+certify_asks true same true true = refl
+certify_asks true same true false = refl
+certify_asks true same false certified = refl
 
-  pub may_write : (m : ℕ) → m ≡ write → member (minus (common free mw) wr) r ≡ may_ask v m free r mr mw rd wr certified
-  may_write m e =
-      member-minus (common free mw) wr r ∙ ap₂ (λ (a b : Bool). a && not b) (member-common free mw r) (twice (member wr r))
-      ∙ and_yes (member free r && member mw r && not (member wr r || member wr r))
-      ∙ ap (λ (b : Bool). b && member free r && member mw r && not (member wr r || member wr r) && true) (sym (inside_between read (strongest v) write (omega arith) (omega arith)))
-      ∙ ap (λ (n : ℕ). may_ask v n free r mr mw rd wr certified) (sym e)
-    where
-      twice : (b : Bool) → b ≡ b || b
-      twice true = refl
-      twice false = refl
+lock_asks : (right same written certified : Bool) → right && not (same || written) ≡ Asks false right same written certified
+lock_asks right same written certified = go (right && not (same || written))
+  where
+    go : (b : Bool) → b ≡ b && true
+    go true = refl
+    go false = refl
 
-  pub may_certify : (m : ℕ) → m ≢ read → m ≢ write
-      → eqb m certify && eqb v 2 && not certified && member (common (common free mw) wr) r ≡ may_ask v m free r mr mw rd wr certified
-  may_certify m d e = go (ℕ_discrete m certify) (ℕ_discrete v 2)
-    where
-      asks : (free right written certified : Bool) → not certified && (free && right && written) ≡ free && right && not (written && certified) && written
-      asks false right written certified = not-and certified
-        where
-          not-and : (c : Bool) → not c && false ≡ false
-          not-and true = refl
-          not-and false = refl
-      asks true right written certified = two right written certified
-        where
-          two : (right written certified : Bool) → not certified && (right && written) ≡ right && not (written && certified) && written
-          two true true true = refl
-          two true true false = refl
-          two true false true = refl
-          two true false false = refl
-          two false written true = refl
-          two false written false = refl
+module _ (m r mr mw rd wr : ℕ) (certified : Bool) where
+  pub may_certify : (right written : Bool) → m ≡ certify → right ≡ member (of_mode m mr mw) r → written ≡ member wr r
+      → right && written && not certified ≡ may_ask m r mr mw rd wr certified
+  may_certify right written e p q =
+      ap₂ (λ (x y : Bool). x && y && not certified) p q
+      ∙ certify_asks (member (of_mode m mr mw) r) (member (of_mode m rd wr) r) (member wr r) certified
+      ∙ ap (λ (b : Bool). Asks b (member (of_mode m mr mw) r) (member (of_mode m rd wr) r) (member wr r) certified) (sym (eq-eqb m certify e))
 
-      -- a mode that is none of the version's
-      out : (m ≢ certify) ⊎ (v ≢ 2) → false ≡ between read (strongest v) m
-      out f = test (between read (strongest v) m) refl
-        where
-          none : (read ≤ m) × (m ≤ strongest v) → ⊥
-          none w = elim (ℕ_discrete m certify) [
-            | yes q ↦ elim f [
-              | inl n ↦ n q
-              | inr n ↦ n (omega (arith, w.1))
-            ]
-            | no q ↦ elim (dec_le m read) [
-              | yes l ↦ d (omega (arith, w.0))
-              | no l ↦ e (three (dec_le certify m) q (omega arith))
-            ]
-          ]
-            where
-              three : Dec (certify ≤ m) → m ≢ certify → 2 ≤ m → m ≡ write
-              three (yes h) q l = absurd (q (omega (arith, w.1)))
-              three (no h) q l = omega arith
-
-          test : (b : Bool) → between read (strongest v) m ≡ b → false ≡ b
-          test true t = absurd (none (between_true read (strongest v) m t))
-          test false t = refl
-
-      no_mode : (m ≢ certify) ⊎ (v ≢ 2) → false ≡ may_ask v m free r mr mw rd wr certified
-      no_mode f =
-          ap (λ (b : Bool). b && member free r && member (of_mode m mr mw) r && not (already_in m r rd wr certified) && (not (eqb m certify) || member wr r)) (out f)
-
-      go : Dec (m ≡ certify) → Dec (v ≡ 2) → eqb m certify && eqb v 2 && not certified && member (common (common free mw) wr) r ≡ may_ask v m free r mr mw rd wr certified
-      go (no f) x = ap (λ (b : Bool). b && eqb v 2 && not certified && member (common (common free mw) wr) r) (ne_eqb m certify f) ∙ no_mode (inl f)
-      go (yes f) (no g) =
-          ap₂ (λ (a b : Bool). a && b && not certified && member (common (common free mw) wr) r) (eq-eqb m certify f) (ne_eqb v 2 g) ∙ no_mode (inr g)
-      go (yes f) (yes g) =
-          ap₂ (λ (a b : Bool). a && b && not certified && member (common (common free mw) wr) r) (eq-eqb m certify f) (eq-eqb v 2 g)
-          ∙ ap (λ (b : Bool). not certified && b) (member-common (common free mw) wr r ∙ ap (λ (b : Bool). b && member wr r) (member-common free mw r))
-          ∙ asks (member free r) (member mw r) (member wr r) certified
-          ∙ ap (λ (b : Bool). b && member free r && member mw r && not (member wr r && certified) && member wr r) (sym (inside_between read (strongest v) certify (omega arith) (omega arith)))
-          ∙ ap (λ (n : ℕ). may_ask v n free r mr mw rd wr certified) (sym f)
+  pub may_lock_lem : (right same written : Bool) → m ≢ certify → right ≡ member (of_mode m mr mw) r → same ≡ member (of_mode m rd wr) r → written ≡ member wr r
+      → right && not (same || written) ≡ may_ask m r mr mw rd wr certified
+  may_lock_lem right same written d p q w =
+      ap₂ (λ (x y : Bool). x && not y) p (ap₂ ◌||◌ q w)
+      ∙ lock_asks (member (of_mode m mr mw) r) (member (of_mode m rd wr) r) (member wr r) certified
+      ∙ ap (λ (b : Bool). Asks b (member (of_mode m mr mw) r) (member (of_mode m rd wr) r) (member wr r) certified) (sym (ne_eqb m certify d))
 
 -- ---- a waiting job
 
 -- the object's sets are those at its index
-pub may_await_is : (s : State) (m r o : ℕ) → 1 ≤ o → is_object s o ≡ true
-    → may_ask s.counts.version m (minus s.active s.unlocked) r (get_or s.may_read (o - 1) 0) (get_or s.may_write (o - 1) 0) (get_or s.readers (o - 1) 0) (get_or s.writers (o - 1) 0) (is_certified s o)
+pub may_await_is : (s : State) (m r o : ℕ) → 1 ≤ o → between 1 (strongest s.counts.version) m && is_object s o ≡ true
+    → is_active s r && not (has_unlocked s r) && may_ask m r (get_or s.may_read (o - 1) 0) (get_or s.may_write (o - 1) 0) (get_or s.readers (o - 1) 0) (get_or s.writers (o - 1) 0) (is_certified s o)
     ≡ may_await s m r o
 may_await_is s m r o h e =
-    ap (λ (n : ℕ). may_ask v m free r n (get_or s.may_write (o - 1) 0) (get_or s.readers (o - 1) 0) (get_or s.writers (o - 1) 0) (is_certified s o)) (sym (at_index s.may_read o h))
-    ∙ ap (λ (n : ℕ). may_ask v m free r (at s.may_read o) n (get_or s.readers (o - 1) 0) (get_or s.writers (o - 1) 0) (is_certified s o)) (sym (at_index s.may_write o h))
-    ∙ ap (λ (n : ℕ). may_ask v m free r (at s.may_read o) (at s.may_write o) n (get_or s.writers (o - 1) 0) (is_certified s o)) (sym (at_index s.readers o h))
-    ∙ ap (λ (n : ℕ). may_ask v m free r (at s.may_read o) (at s.may_write o) (at s.readers o) n (is_certified s o)) (sym (at_index s.writers o h))
-    ∙ ap (λ (b : Bool). b && may_lock s m r o && not (holds_already s m r o) && holds_before s m r o) (ap (◌&&◌ mode) (member-minus s.active s.unlocked r) ∙ front mode (is_active s r) (not (has_unlocked s r)))
-    ∙ ap (λ (b : Bool). mode && b && is_active s r && not (has_unlocked s r) && may_lock s m r o && not (holds_already s m r o) && holds_before s m r o) (sym e)
+    ap (λ (n : ℕ). is_active s r && not (has_unlocked s r) && may_ask m r n (get_or s.may_write (o - 1) 0) (get_or s.readers (o - 1) 0) (get_or s.writers (o - 1) 0) (is_certified s o)) (sym (at_index s.may_read o h))
+    ∙ ap (λ (n : ℕ). is_active s r && not (has_unlocked s r) && may_ask m r (at s.may_read o) n (get_or s.readers (o - 1) 0) (get_or s.writers (o - 1) 0) (is_certified s o)) (sym (at_index s.may_write o h))
+    ∙ ap (λ (n : ℕ). is_active s r && not (has_unlocked s r) && may_ask m r (at s.may_read o) (at s.may_write o) n (get_or s.writers (o - 1) 0) (is_certified s o)) (sym (at_index s.readers o h))
+    ∙ ap (λ (n : ℕ). is_active s r && not (has_unlocked s r) && may_ask m r (at s.may_read o) (at s.may_write o) (at s.readers o) n (is_certified s o)) (sym (at_index s.writers o h))
+    ∙ four (is_active s r && not (has_unlocked s r)) (may_lock s m r o) (not (holds_already s m r o)) (holds_before s m r o)
+    ∙ ap (λ (b : Bool). b && is_active s r && not (has_unlocked s r) && may_lock s m r o && not (holds_already s m r o) && holds_before s m r o) (sym e)
   where
-    v : ℕ
-    v = s.counts.version
-
-    free : ℕ
-    free = minus s.active s.unlocked
-
-    mode : Bool
-    mode = between read (strongest v) m
-
-    front : (a b c : Bool) → a && (b && c) ≡ a && true && b && c
-    front true b c = refl
-    front false b c = refl
-
--- no job may wait for an object that the table does not have
-pub no_object : (s : State) (m r o : ℕ) → is_object s o ≡ false → false ≡ may_await s m r o
-no_object s m r o e = go (between read (strongest s.counts.version) m)
-  where
-    go : (b : Bool) → false ≡ b && is_object s o && is_active s r && not (has_unlocked s r) && may_lock s m r o && not (holds_already s m r o) && holds_before s m r o
-    go true = simp e
-    go false = refl
+    four : (a b c d : Bool) → a && (b && c && d) ≡ a && b && c && d
+    four true b c d = refl
+    four false b c d = refl
 
 pub wait_none : (s : State) (r : ℕ) → request_of s r ≡ 0 → wait_fits s r ≡ true
 wait_none s r e = simp (eq-eqb (request_of s r) 0 e)
@@ -172,6 +101,10 @@ waits_joined s = every_same most_jobs (wait_fits (marks_joined s)) (λ r. wait_f
     and_no : (b : Bool) → b && false ≡ false
     and_no true = refl
     and_no false = refl
+
+    and_yes : (b : Bool) → b ≡ b && true
+    and_yes true = refl
+    and_yes false = refl
 
     asks : (front unlocked sleeping a b c : Bool) → front && not (unlocked || sleeping) && a && b && c ≡ front && not unlocked && a && b && c && not sleeping
     asks false unlocked sleeping a b c = refl

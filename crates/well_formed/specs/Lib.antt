@@ -1,2 +1,2 @@
--- What the test of a state asks of one request.
-pub mod Asking
+-- What the test of a state gathers.
+pub mod Survey

@@ -4,10 +4,12 @@ ghost use Rattle.basics.specs.Loops.{every};
 ghost use Rattle.state.specs.State.{most_jobs, most_objects, state_of};
 ghost use Rattle.state.specs.WellFormed.{processors_fit, may_await, wait_fits, waits_fit};
 ghost use Rattle.state.specs.State.{mode_of_request, object_of_request};
-ghost use Rattle.well_formed.specs.Asking.{may_ask};
+ghost use Rattle.well_formed.specs.Survey.{may_ask};
 
 use ranks::RankSet;
-use state::{Counts, JobProcessors, JobRequests, ObjectMarks, Sets, is_marked, none_waits, within};
+use state::{
+    Counts, JobProcessors, JobRequests, ObjectMarks, Sets, is_marked, none_waits, of_mode, within,
+};
 
 // The larger of two numbers.
 fn larger(a: u8, b: u8) -> u8
@@ -32,12 +34,9 @@ pub fn processors_fit(counts: Counts, processor_of: &JobProcessors) -> bool
     last < processors
 }
 
-// Whether a rank may ask for an object with these sets in a mode of the version, where only those of a set may ask at all: it has the right and neither
-// that lock nor the write lock, and to certify the write lock alone. The modes one by one, each by one look into one set.
+// Whether a rank may ask for an object with these sets in a mode: it has the right, neither that lock nor the write lock, and to certify the write lock alone.
 fn may_ask(
-    version: u8,
     mode: u8,
-    free: RankSet,
     rank: u8,
     may_read: RankSet,
     may_write: RankSet,
@@ -45,21 +44,15 @@ fn may_ask(
     writers: RankSet,
     certified: bool,
 ) -> bool
-    requires { (1 ≤ version) × (version ≤ 2) × (1 ≤ rank) × (rank ≤ most_jobs) }
-    ensures { result ≡ may_ask version mode free rank may_read may_write readers writers certified }
+    requires { (1 ≤ rank) × (rank ≤ most_jobs) }
+    ensures { result ≡ may_ask mode rank may_read may_write readers writers certified }
 {
-    if mode == 1 {
-        let reading = ranks::common(free, may_read);
-        return ranks::contains(ranks::minus(reading, ranks::union(readers, writers)), rank);
+    let right = ranks::contains(of_mode(mode, may_read, may_write), rank);
+    let written = ranks::contains(writers, rank);
+    if mode == 3 {
+        return right & written & !certified;
     }
-    let writing = ranks::common(free, may_write);
-    if mode == 2 {
-        return ranks::contains(ranks::minus(writing, writers), rank);
-    }
-    (mode == 3)
-        & (version == 2)
-        & !certified
-        & ranks::contains(ranks::common(writing, writers), rank)
+    right & !(ranks::contains(of_mode(mode, readers, writers), rank) | written)
 }
 
 // Whether a rank may be waiting for the request: a lock of one of the version's modes on an object of the table that it may ask for, in a run without an
@@ -76,27 +69,27 @@ fn may_await<'a>(
     request: u16,
     rank: u8,
 ) -> bool
-    requires { (1 ≤ counts.version) × (counts.version ≤ 2) × (counts.objects ≤ most_objects) × (1 ≤ rank) × (rank ≤ most_jobs) }
+    requires { (counts.version ≤ 2) × (counts.objects ≤ most_objects) × (1 ≤ rank) × (rank ≤ most_jobs) }
     ensures { result ≡ may_await (state_of counts [] may_read.entry.now may_write.entry.now active unlocked 0 0 readers.entry.now writers.entry.now certified.now [])
         (mode_of_request request) rank (object_of_request request) }
 {
     let mode = (request / 256) as u8;
     let object = (request % 256) as u8;
-    if !within(1, counts.objects, object) {
+    if !(within(1, counts.version + 1, mode) & within(1, counts.objects, object)) {
         return false;
     }
     let i = (object - 1) as usize;
-    may_ask(
-        counts.version,
-        mode,
-        ranks::minus(active, unlocked),
-        rank,
-        may_read[i],
-        may_write[i],
-        readers[i],
-        writers[i],
-        is_marked(certified, object),
-    )
+    ranks::contains(active, rank)
+        & !ranks::contains(unlocked, rank)
+        & may_ask(
+            mode,
+            rank,
+            may_read[i],
+            may_write[i],
+            readers[i],
+            writers[i],
+            is_marked(certified, object),
+        )
 }
 
 // Whether each of the four jobs from an index on may be waiting for its request, if it has one.
@@ -112,7 +105,7 @@ fn four_fit<'a>(
     request: &'a JobRequests,
     from: usize,
 ) -> bool
-    requires { (1 ≤ counts.version) × (counts.version ≤ 2) × (counts.objects ≤ most_objects) × (from + 4 ≤ most_jobs) }
+    requires { (counts.version ≤ 2) × (counts.objects ≤ most_objects) × (from + 4 ≤ most_jobs) }
     ensures { result ≡ every 4 (λ k. wait_fits (state_of counts [] may_read.entry.now may_write.entry.now active unlocked 0 0 readers.entry.now writers.entry.now certified.now request.now) (from + k)) }
 {
     if none_waits(request, from, 4) {
@@ -154,7 +147,7 @@ pub fn waits_fit<'a>(
     certified: &'a ObjectMarks,
     request: &'a JobRequests,
 ) -> bool
-    requires { (1 ≤ counts.version) × (counts.version ≤ 2) × (counts.objects ≤ most_objects) }
+    requires { (counts.version ≤ 2) × (counts.objects ≤ most_objects) }
     ensures { result ≡ waits_fit (state_of counts [] may_read.entry.now may_write.entry.now active unlocked 0 0 readers.entry.now writers.entry.now certified.now request.now) }
 {
     if none_waits(request, 0, 64) {

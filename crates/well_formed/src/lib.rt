@@ -1,17 +1,23 @@
 // The test whether a state is well formed: refusal 8.
+#![tactic(auto)]
 ghost use Rattle.std.specs.Prelude.{◌≡◌, ◌&&◌, eqb, length};
 ghost use Rattle.state.specs.State.{most_jobs, most_objects, mark_words, state_of};
 ghost use Rattle.state.specs.WellFormed.{well_formed};
 ghost use Rattle.state.specs.Facts.{Sized};
 
 mod jobs;
+mod locks;
+mod marks;
+mod order;
 
 use jobs::{processors_fit, waits_fit};
+use locks::{survey_objects, union_outside};
+use marks::certified_well;
+use order::holders_in_order;
 use ranks::RankSet;
 use state::{
     Counts, JobProcessors, JobRequests, ObjectMarks, Sets, State, counts_within, is_version,
 };
-use well_formed_locks::{certified_well, holders_in_order, survey_objects, union_outside};
 
 // Whether the state with these parts is well formed. Who has unlocked and who sleeps are looked at together: they are active and wait for nothing.
 // The order of the holders is looked at in a second pass, and only where there are two.

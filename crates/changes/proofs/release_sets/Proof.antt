@@ -1,26 +1,25 @@
 -- `changes::release_sets` meets its contract. The loop's invariant: the first i sets are without the rank, the others as they were, and `left` has the ranks
--- of the first i. It ends because what is left of the table's objects falls. The sets behind these are empty: taken out of them or not, nobody is left there.
+-- of the first i. It ends because what is left of the sets falls.
 -- Assumes nothing.
 use Prim.Native.Nat.{ℕ, suc, ◌+◌, ◌-◌, ◌≤◌}
 use mathlib.Core.Path.{◌≡◌, refl, sym, ap, ap₂, ◌∙◌}
 use mathlib.Core.List.{List}
 use native.Mathlib.Omega.{arith}
 use lib.ListN.{get_or, set}
-use Rattle.basics.specs.Arrays.{at, mapped, mapped_more, mapped_rest, mapped-zeros, at_next}
+use Rattle.basics.specs.Arrays.{at, mapped, mapped_more, mapped_rest, at_next}
 use Rattle.ranks.specs.Ranks.{without, union, unions}
-use Rattle.ranks.specs.RankLaws.{without_empty}
-use Rattle.ranks.specs.UnionLaws.{unions_next, unions_rest}
+use Rattle.ranks.specs.UnionLaws.{unions_next}
 use Rattle.state.specs.State.{most_objects}
 use borrow.Author.Rules.{rules}
 use Rattle.changes.proofs.release_sets.Statement.{statement}
 use Rattle.changes.proofs.release_sets.Tie as tie
 
 abbrev invariant-loop : tie.invariant-loop
-invariant-loop sets₀ objects rank most left₀ i₀ sets left i =
-    (i ≤ most) × (sets ≡ mapped (λ v. without v rank) i sets₀) × (left ≡ unions i (λ o. without (at sets₀ o) rank))
+invariant-loop sets₀ rank left₀ i₀ sets left i =
+    (i ≤ most_objects) × (sets ≡ mapped (λ v. without v rank) i sets₀) × (left ≡ unions i (λ o. without (at sets₀ o) rank))
 
 abbrev decreases-loop : tie.decreases-loop
-decreases-loop sets₀ objects rank most left₀ i₀ sets left i = most - i
+decreases-loop sets₀ rank left₀ i₀ sets left i = most_objects - i
 
 loop-holds : tie.Need-loop-init invariant-loop decreases-loop
 unfolding mapped unions
@@ -69,14 +68,10 @@ loop-again c =
 
 returns : tie.Need-returns invariant-loop decreases-loop
 returns c =
-    let a = c.before.before.args in
-    let before = a.sets.now in
-    let P = c.before.before.requires in
-    let e : c.before.loop.i ≡ a.objects = omega arith in (
-      c.before.loop.invariant.1 ∙ ap (λ (n : ℕ). mapped (λ v. without v a.rank) n before) e
-          ∙ mapped-zeros (λ v. without v a.rank) a.objects most_objects before (without_empty a.rank) P.0 P.1,
-      c.before.loop.invariant.2 ∙ ap (λ (n : ℕ). unions n (λ o. without (at before o) a.rank)) e
-          ∙ unions_rest a.objects most_objects (λ o. without (at before o) a.rank) P.0 (λ o h. ap (λ (v : ℕ). without v a.rank) (P.1 o h) ∙ without_empty a.rank),
+    let e : c.before.loop.i ≡ most_objects = omega arith in
+    let before = c.before.before.args.sets.now in (
+      c.before.loop.invariant.1 ∙ ap (λ (n : ℕ). mapped (λ v. without v c.before.before.args.rank) n before) e,
+      c.before.loop.invariant.2 ∙ ap (λ (n : ℕ). unions n (λ o. without (at before o) c.before.before.args.rank)) e,
     )
 
 pub release-sets-spec : {M : Type 1} → statement M

@@ -1,19 +1,14 @@
 -- `events::end_run` meets its contract: the parts that it changes are those of the state after the run's end, and that of the wake follows.
 -- Assumes nothing.
 use mathlib.Core.Path.{sym, subst, ◌∙◌}
-use Rattle.state.specs.declared.State.{State}
-use Rattle.state.specs.State.{read, write, state_of, end_run}
-use Rattle.state.specs.Holders.{held_state, none_behind}
+use mathlib.Core.List.{[]}
+use Rattle.state.specs.State.{state_of, end_run}
 use Rattle.refusals.specs.Accepting.{RequestsFit}
 use Rattle.events.specs.Events as E
 use Rattle.events.proofs.EventLaws as L
 use borrow.Author.Rules.{rules}
 use Rattle.events.proofs.end_run.Statement.{statement}
 use Rattle.events.proofs.end_run.Tie as tie
-
--- the part of the state that is known at the start
-abbrev held : tie.Start → State
-held c = let a = c.args in held_state a.counts a.may_read.now a.may_write.now a.holder.now a.readers.now a.writers.now a.certified.now
 
 without-requires : tie.Need-without-requires
 without-requires c κs = search rules
@@ -28,10 +23,10 @@ drop-marks-requires : tie.Need-drop-marks-requires
 drop-marks-requires c κs = search rules
 
 release-sets-requires : tie.Need-release-sets-requires
-release-sets-requires c κs = let P = c.before.before.before.before.before.before.before.before.before.before.requires in (P.4.few, none_behind (held c.before.before.before.before.before.before.before.before.before.before) P.4 read, P.1, P.2)
+release-sets-requires c κs = search rules
 
 release-sets-requires-2 : tie.Need-release-sets-requires-2
-release-sets-requires-2 c κs = let P = c.before.before.before.before.before.before.before.before.before.before.before.before.requires in (P.4.few, none_behind (held c.before.before.before.before.before.before.before.before.before.before.before.before) P.4 write, P.1, P.2)
+release-sets-requires-2 c κs = search rules
 
 union-requires : tie.Need-union-requires
 union-requires c κs = search rules
@@ -45,7 +40,7 @@ store-request-requires c κs = search rules
 wake-requires : tie.Need-wake-requires
 wake-requires c κs =
     let a = c.before.before.before.before.before.before.before.before.before.before.before.before.before.before.before.before.before.before.before.before.before.before.args in
-    let s = held c.before.before.before.before.before.before.before.before.before.before.before.before.before.before.before.before.before.before.before.before.before.before in
+    let s = state_of a.counts [] a.may_read.now a.may_write.now 0 0 0 a.holder.now a.readers.now a.writers.now a.certified.now [] in
     let H = c.before.before.before.before.before.before.before.before.before.before.before.before.before.before.before.before.before.before.before.before.before.before.requires.4 in
     let carried = c.before.before.before.before.before.before.before.most_urgent_lem.ensures ∙ L.last_holder s H a.rank c.before.before.before.before.before.before.before.before.union.result c.before.before.before.before.before.before.before.before.before.before.before.release-sets.result c.before.before.before.before.before.before.before.before.before.release-sets2.result c.before.before.before.before.before.before.before.before.union.ensures c.before.before.before.before.before.before.before.before.before.before.before.release-sets.ensures.1 c.before.before.before.before.before.before.before.before.before.release-sets2.ensures.1 in (
       c.before.before.before.before.before.before.before.before.before.before.before.before.before.before.before.before.before.before.before.before.before.before.requires.0,
@@ -57,7 +52,7 @@ returns : tie.Need-returns
 unfolding end_run
 returns c =
     let a = c.before.before.before.before.before.before.before.before.before.before.before.before.before.before.before.before.before.before.before.before.before.before.before.args in
-    let s = held c.before.before.before.before.before.before.before.before.before.before.before.before.before.before.before.before.before.before.before.before.before.before.before in
+    let s = state_of a.counts [] a.may_read.now a.may_write.now 0 0 0 a.holder.now a.readers.now a.writers.now a.certified.now [] in
     let H = c.before.before.before.before.before.before.before.before.before.before.before.before.before.before.before.before.before.before.before.before.before.before.before.requires.4 in
     let carried = c.before.before.before.before.before.before.before.before.most_urgent_lem.ensures ∙ L.last_holder s H a.rank c.before.before.before.before.before.before.before.before.before.union.result c.before.before.before.before.before.before.before.before.before.before.before.before.release-sets.result c.before.before.before.before.before.before.before.before.before.before.release-sets2.result c.before.before.before.before.before.before.before.before.before.union.ensures c.before.before.before.before.before.before.before.before.before.before.before.before.release-sets.ensures.1 c.before.before.before.before.before.before.before.before.before.before.release-sets2.ensures.1 in
     λ ps. c.wake.ensures c.before.before.before.before.before.before.before.before.before.before.before.before.before.before.before.before.before.before.before.before.before.without.result c.before.before.before.before.before.before.before.before.before.before.before.before.before.before.before.before.before.before.before.without2.result c.before.before.before.before.before.before.before.before.before.before.before.before.before.before.before.before.before.without3.result ps

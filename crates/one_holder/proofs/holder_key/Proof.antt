@@ -21,7 +21,7 @@ use Rattle.weights.proofs.lower.Reads as lower-reads
 
 abbrev invariant-loop : tie.invariant-loop
 invariant-loop counts may_read may_write readers writers certified holder locked lowest₀ i₀ lowest i =
-    (i ≤ locked.count) × (lowest ≡ least i no_key (λ k. holder_key_at (locks_state counts may_read may_write readers writers certified) holder (at locked.places k + 1)))
+    (i ≤ locked.count) × (lowest ≡ least i no_key (λ k. holder_key_at (locks_state counts may_read may_write readers writers certified) holder (at locked.objects k)))
 
 abbrev decreases-loop : tie.decreases-loop
 decreases-loop counts may_read may_write readers writers certified holder locked lowest₀ i₀ lowest i = locked.count - i
@@ -40,8 +40,8 @@ own-key-at-requires : tie.Need-own-key-at-requires invariant-loop decreases-loop
 own-key-at-requires c κs =
     let i = c.before.before.loop.i in
     let w = c.before.before.before.locked-by.ensures.locks.inside (i + 1) (omega arith) (omega (arith, c.before.loop-test.true)) in
-    let here = at_next c.before.before.before.locked-by.result.places i in
-    (omega (arith, here, w, c.before.before.before.before.requires), omega (arith, c.before.before.before.locked-by.ensures.rank (omega (arith, c.before.loop-test.true))), c.before.before.before.before.requires.1)
+    let here = at_next c.before.before.before.locked-by.result.objects i in
+    (omega (arith, here, w.0), omega (arith, here, w.1, c.before.before.before.before.requires), omega (arith, c.before.before.before.locked-by.ensures.rank (omega (arith, c.before.loop-test.true))), c.before.before.before.before.requires.1)
 
 lower-requires : tie.Need-lower-requires invariant-loop decreases-loop
 lower-requires c κs = search rules
@@ -56,19 +56,19 @@ loop-again : tie.Need-loop-preserved invariant-loop decreases-loop
 loop-again c =
     let a = c.before.before.before.before.before.before.args in
     let s = locks_state a.counts a.may_read.now a.may_write.now a.readers.now a.writers.now a.certified.now in
-    let list = c.before.before.before.before.before.locked-by.result.places in
-    let key : ℕ → ℕ = (λ k. holder_key_at s a.holder (at list k + 1)) in (
+    let list = c.before.before.before.before.before.locked-by.result.objects in
+    let key : ℕ → ℕ = (λ k. holder_key_at s a.holder (at list k)) in (
       omega (arith, c.before.before.before.loop-test.true),
-      c.lower.ensures ∙ ap₂ min c.before.before.before.before.loop.invariant.1 (c.before.own-key-at.ensures ∙ ap (λ (p : ℕ). holder_key_at s a.holder (p + 1)) (sym (at_next list c.before.before.before.before.loop.i))) ∙ sym (least_more c.before.before.before.before.loop.i no_key key),
+      c.lower.ensures ∙ ap₂ min c.before.before.before.before.loop.invariant.1 (c.before.own-key-at.ensures ∙ ap (holder_key_at s a.holder) (sym (at_next list c.before.before.before.before.loop.i))) ∙ sym (least_more c.before.before.before.before.loop.i no_key key),
     )
 
 returns : tie.Need-returns invariant-loop decreases-loop
 returns c =
     let a = c.before.before.before.args in
     let s = locks_state a.counts a.may_read.now a.may_write.now a.readers.now a.writers.now a.certified.now in
-    let list = c.before.before.locked-by.result.places in
+    let list = c.before.before.locked-by.result.objects in
     let all : c.before.loop.i ≡ c.before.before.locked-by.result.count = omega (arith, c.before.loop.invariant.0, c.loop-test.false) in
-    c.before.loop.invariant.1 ∙ ap (λ (n : ℕ). least n no_key (λ k. holder_key_at s a.holder (at list k + 1))) all
+    c.before.loop.invariant.1 ∙ ap (λ (n : ℕ). least n no_key (λ k. holder_key_at s a.holder (at list k))) all
     ∙ gathered_key s a.holder list c.before.before.locked-by.result.count c.before.before.locked-by.ensures
 
 pub holder-key-spec : {M : Type 1} → statement M

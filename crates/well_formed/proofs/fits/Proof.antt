@@ -28,10 +28,10 @@ use Rattle.state.proofs.counts_within.Reads as counts-within-reads
 use Rattle.state.proofs.is_version.Reads as is-version-reads
 use Rattle.well_formed.proofs.jobs.processors_fit.Reads as processors-fit-reads
 use Rattle.well_formed.proofs.jobs.waits_fit.Reads as waits-fit-reads
-use Rattle.well_formed_locks.proofs.survey_objects.Reads as survey-objects-reads
-use Rattle.well_formed_locks.proofs.union_outside.Reads as union-outside-reads
-use Rattle.well_formed_locks.proofs.certified_well.Reads as certified-well-reads
-use Rattle.well_formed_locks.proofs.holders_in_order.Reads as holders-in-order-reads
+use Rattle.well_formed.proofs.locks.survey_objects.Reads as survey-objects-reads
+use Rattle.well_formed.proofs.locks.union_outside.Reads as union-outside-reads
+use Rattle.well_formed.proofs.marks.certified_well.Reads as certified-well-reads
+use Rattle.well_formed.proofs.order.holders_in_order.Reads as holders-in-order-reads
 
 -- the state that the parts are of
 abbrev whole : (c : tie.Start) → State
@@ -96,9 +96,7 @@ processors-fit-requires c κs = let w = counts_within_lem c.before.before.before
 waits-fit-requires : tie.Need-waits-fit-requires
 waits-fit-requires c κs =
     let t = tested c.before.before.before.before.before.before.before.before.before.before.before.before.before in
-    let a = c.before.before.before.before.before.before.before.before.before.before.before.before.before.before.before.before.args in
-    let version = between_true 1 2 a.counts.version t.1 in
-    (version.0, version.1, (counts_within_lem a.counts t.0).objects.1)
+    ((between_true 1 2 c.before.before.before.before.before.before.before.before.before.before.before.before.before.before.before.before.args.counts.version t.1).1, (counts_within_lem c.before.before.before.before.before.before.before.before.before.before.before.before.before.before.before.before.args.counts t.0).objects.1)
 
 most-urgent-requires : tie.Need-most-urgent-requires
 most-urgent-requires c κs = search rules

@@ -46,7 +46,7 @@ unfolding every
 loop-holds c = (omega arith, omega arith, refl)
 
 four-fit-requires : tie.Need-four-fit-requires invariant-loop decreases-loop
-four-fit-requires c κs = (c.before.before.before.before.requires.0, c.before.before.before.before.requires.1, c.before.before.before.before.requires.2, omega (arith, c.loop-test.true, c.before.loop.invariant.0))
+four-fit-requires c κs = (c.before.before.before.before.requires.0, c.before.before.before.before.requires.1, omega (arith, c.loop-test.true, c.before.loop.invariant.0))
 
 returns-2 : tie.Need-returns-2 invariant-loop decreases-loop
 unfolding waits_fit

@@ -1,0 +1,18 @@
+-- `state::union_of` meets its contract. The loop's invariant: the union is that of the first k sets; a turn joins one more.
+-- It ends because what is left of the count falls.
+-- Assumes nothing.
+use Prim.Native.Nat.{ℕ, ◌+◌, ◌-◌, ◌≤◌}
+use mathlib.Core.Path.{◌≡◌, refl, sym, ap, ap₂, ◌∙◌}
+use native.Mathlib.Nat.{add-suc}
+use native.Mathlib.Omega.{arith}
+use Rattle.basics.specs.Arrays.{at}
+use Rattle.ranks.specs.Ranks.{union, unions}
+use Rattle.ranks.specs.UnionLaws.{unions_next}
+use borrow.Author.Rules.{rules}
+use Rattle.state.proofs.parts.union_of.Given as goal
+
+abbrev pub invariant-loop-k : goal.invariant-loop-k
+invariant-loop-k l = (l.k ≤ l.count) × (l.all ≡ unions l.k (λ j. at l.sets (l.from + j)))
+
+abbrev pub decreases-loop-k : goal.decreases-loop-k
+decreases-loop-k l = l.count - l.k
