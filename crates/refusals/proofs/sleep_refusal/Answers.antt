@@ -1,0 +1,38 @@
+-- `refusals::sleep_refusal` meets its contract: 10 leaves at once; behind it the rank is one that the arrays have.
+-- Assumes nothing.
+use mathlib.Core.Path.{sym, ap, ap₂, ◌∙◌}
+use mathlib.Core.Bool.{Bool, not, ◌&&◌}
+use mathlib.Core.List.{List}
+use Prim.Native.Nat.{ℕ}
+use native.Mathlib.Omega.{arith}
+use lib.Dec.{eqb}
+use borrow.Author.Tests.{not-true, not-false}
+use Rattle.basics.specs.Choice.{◌if◌else◌, ◌or_else◌, between_true}
+use Rattle.state.specs.declared.State.{State}
+use Rattle.state.specs.State.{state_of, is_active, is_waiting, is_sleeping}
+use Rattle.refusals.specs.Parts as P
+use borrow.Author.Rules.{rules}
+use Rattle.refusals.proofs.sleep_refusal.Goals as goal
+use Rattle.refusals.proofs.sleep_refusal.Goals.{Start}
+
+-- the state that the parts are of, with any other parts
+abbrev whole : (c : Start) → ℕ → ℕ → List ℕ → List ℕ → List ℕ → List ℕ → List ℕ → List ℕ → State
+whole c u h ps mr mw rs ws cs = let a = c.args in state_of a.counts ps mr mw a.active u a.sleeping h rs ws cs a.request.now
+
+pub returns-then-not-within : goal.returns-then-not-within
+returns-then-not-within c =
+    let a = c.args in
+    λ u h ps mr mw rs ws cs. sym (P.sleep_refusal_lem (whole (c.before.before) u h ps mr mw rs ws cs) a.kind a.rank a.object c.requires.1 c.requires.2 ∙ simp (sym c.within.ensures ∙ c.if-not-within.true))
+
+pub returns : goal.returns
+returns c =
+    let a = c.args in
+    λ u h ps mr mw rs ws cs.
+    let s = whole (c.before.before.before.before.before.before.before.before) u h ps mr mw rs ws cs in
+    let awake = c.refused_if.ensures ∙ ap (λ (b : Bool). 27 if eqb a.kind 9 && not b else 0) c.contains-awake.ensures in
+    c.refused_if-2.ensures
+    ∙ ap (λ (n : ℕ). 11 if not (eqb a.object 0) else n)
+    (c.job_event_refusal-job.ensures ∙ ap₂ (λ (b : Bool) (n : ℕ). 13 if not b else (n or_else c.refused_if.result)) c.contains.ensures c.ready_refusal.ensures
+    ∙ ap (λ (n : ℕ). 13 if not (is_active s a.rank) else n) (P.ready_first (eqb a.kind 8 && is_waiting s a.rank) (eqb a.kind 8 && is_sleeping s a.rank) c.refused_if.result)
+    ∙ ap (λ (n : ℕ). 13 if not (is_active s a.rank) else 14 if eqb a.kind 8 && is_waiting s a.rank else 26 if eqb a.kind 8 && is_sleeping s a.rank else n) awake)
+    ∙ sym (P.sleep_refusal_lem s a.kind a.rank a.object c.requires.1 c.requires.2 ∙ simp (sym c.within.ensures ∙ c.if-not-within.false))
