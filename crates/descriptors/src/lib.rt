@@ -4,7 +4,7 @@ ghost use Rattle.std.specs.Prelude.{◌≡◌, ◌+◌, ◌<◌, min, max, lengt
 ghost use Rattle.descriptors.specs.Reading.{part_of, Came};
 
 // What a read gave: it failed, the input has ended, or so many bytes came.
-#[derive(Drop)]
+#[derive(Clone, Copy)]
 pub enum Part {
     Failed,
     End,

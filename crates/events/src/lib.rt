@@ -22,7 +22,7 @@ use refusals::{
 use state::{Counts, JobRequests, ObjectMarks, Sets, SetsMut, State};
 
 // An event's answer: granted; waits for the lock of a holder on an object, with the reason; done, with the woken rank or 0; refused, with its number.
-#[derive(Drop)]
+#[derive(Clone, Copy)]
 pub enum Answer {
     Granted,
     Waits { holder: u8, object: u8, reason: u8 },
@@ -31,7 +31,7 @@ pub enum Answer {
 }
 
 // An event's answer and the next state.
-#[derive(Drop)]
+#[derive(Clone, Copy)]
 pub struct Outcome {
     pub answer: Answer,
     pub state: State,

@@ -14,7 +14,7 @@ use std::num::wrapping_add_u32;
 use well_formed::fits;
 
 // What the generator gives: the refusal's number or 0, and the next seed; on a refusal the seed handed in.
-#[derive(Drop)]
+#[derive(Clone, Copy)]
 pub struct Made {
     pub refusal: u8,
     pub seed: u32,

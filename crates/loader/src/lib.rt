@@ -21,7 +21,7 @@ pub type EventBuffer = [u8; 65535];
 
 // How it ended: all events are written; there are not two arguments; the seed or the count is no number that is wanted; a read failed; the table
 // was refused by a number; a write failed.
-#[derive(Drop)]
+#[derive(Clone, Copy)]
 pub enum Ended {
     Whole,
     NotTwo,
@@ -33,7 +33,7 @@ pub enum Ended {
 }
 
 // How it ended, how many bytes of the table buffer were read, how many events were made, and the seed behind them.
-#[derive(Drop)]
+#[derive(Clone, Copy)]
 pub struct Loaded {
     pub ended: Ended,
     pub held: usize,
@@ -42,14 +42,14 @@ pub struct Loaded {
 }
 
 // What came: how many bytes, and whether a read failed.
-#[derive(Drop)]
+#[derive(Clone, Copy)]
 struct Input {
     held: usize,
     failed: bool,
 }
 
 // How many events were made in parts, the seed behind them, and whether a write failed.
-#[derive(Drop)]
+#[derive(Clone, Copy)]
 struct Parted {
     made: usize,
     seed: u32,

@@ -15,7 +15,7 @@ use state::{Counts, ObjectMarks, Sets, union_of};
 use weights::{NO_KEY, ceiling, lock_key, lower, more_urgent, write_weight};
 
 // Objects, the first so many of a list.
-#[derive(Drop)]
+#[derive(Clone, Copy)]
 pub struct Locked {
     pub objects: [u8; 128],
     pub count: usize,

@@ -20,7 +20,7 @@ use state::{Counts, JobProcessors, JobRequests, ObjectMarks, Sets, State};
 use well_formed::fits_sized;
 
 // What the page writer answers: the page's length, or the refusal's number.
-#[derive(Drop)]
+#[derive(Clone, Copy)]
 pub enum PageAnswer {
     Length(usize),
     Refused(u8),

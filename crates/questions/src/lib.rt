@@ -10,21 +10,21 @@ pub use parts::{ask_ceilings, ask_inherited_rank, ask_named_lock, ask_running};
 use state::State;
 
 // The answer to a question for one rank: the rank, or the refusal's number.
-#[derive(Drop)]
+#[derive(Clone, Copy)]
 pub enum RankAnswer {
     Rank(u8),
     Refused(u8),
 }
 
 // The answer to the question for a named lock: its holder and object, 0 and 0 if the job names nobody; or the refusal's number.
-#[derive(Drop)]
+#[derive(Clone, Copy)]
 pub enum NamedAnswer {
     Lock { holder: u8, object: u8 },
     Refused(u8),
 }
 
 // The answer to the question for an object's ceilings; or the refusal's number.
-#[derive(Drop)]
+#[derive(Clone, Copy)]
 pub enum CeilingsAnswer {
     Ceilings { write: u16, absolute: u16 },
     Refused(u8),

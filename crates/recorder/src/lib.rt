@@ -17,7 +17,7 @@ pub type InputBuffer = [u8; 32768];
 pub type RecordBuffer = [u8; 491610];
 
 // How it ended: the record is whole, a read failed, a write failed, or more events came than 64 bits count.
-#[derive(Drop)]
+#[derive(Clone, Copy)]
 pub enum Ended {
     Whole,
     NotRead,
@@ -26,7 +26,7 @@ pub enum Ended {
 }
 
 // How it ended, how many bytes came, the bench behind them, and how many of them are held at the front of the input buffer.
-#[derive(Drop)]
+#[derive(Clone, Copy)]
 pub struct Recorded {
     pub ended: Ended,
     pub received: u64,
@@ -35,7 +35,7 @@ pub struct Recorded {
 }
 
 // What a part did: the bench behind it, how many bytes are held for the next, and the length of the lines that were laid.
-#[derive(Drop)]
+#[derive(Clone, Copy)]
 struct Fed {
     bench: Bench,
     held: usize,

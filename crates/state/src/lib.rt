@@ -10,7 +10,7 @@ pub use parts::{none_waits, of_mode, union_of};
 use ranks::RankSet;
 
 // A table's version, and how many processors, jobs and objects it has.
-#[derive(Drop)]
+#[derive(Clone, Copy)]
 pub struct Counts {
     pub version: u8,
     pub processors: u8,
@@ -34,7 +34,7 @@ pub type Sets<'a> = &'a ObjectSets;
 pub type SetsMut<'a> = &'a mut ObjectSets;
 
 // The table and the locks. A rank's element stands at rank - 1, an object's at object - 1.
-#[derive(Drop)]
+#[derive(Clone, Copy)]
 pub struct State {
     pub counts: Counts,
     pub processor_of: JobProcessors,

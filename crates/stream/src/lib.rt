@@ -13,7 +13,7 @@ use state::{Counts, State};
 
 // How far the input is read. The refusal is 1 as long as the table may still be incomplete, 0 behind a table that was accepted, its
 // number behind one that was refused. Then how many events were answered, and the state behind them.
-#[derive(Drop)]
+#[derive(Clone, Copy)]
 pub struct Bench {
     pub refusal: u8,
     pub events: u64,
@@ -21,7 +21,7 @@ pub struct Bench {
 }
 
 // What a step did: the bench behind it, how many of the bytes it used, and the length of the lines that it laid.
-#[derive(Drop)]
+#[derive(Clone, Copy)]
 pub struct Advanced {
     pub bench: Bench,
     pub used: usize,

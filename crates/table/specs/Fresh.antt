@@ -66,7 +66,7 @@ module _ (b : List ℕ) (a : AcceptedTable b) where
       each o l h = elim (dec_le o (objects_in b)) [
         | yes p ↦ ap (λ (t : Bool). t || eqb (declared_any (table_state b) o) 0) (inside_between 1 (objects_in b) o l p)
         | no n ↦ or_right (is_object (table_state b) o) (eqb (declared_any (table_state b) o) 0)
-            (none (at (declared_in read b (entry_count b)) o) (at (declared_in write b (entry_count b)) o) (reads.of-objects o (omega arith)) (writes.of_objects o (omega arith)))
+            (none (at (declared_in read b (entry_count b)) o) (at (declared_in write b (entry_count b)) o) (reads.of_objects o (omega arith)) (writes.of_objects o (omega arith)))
       ]
 
   above_idle_lem : above_idle (table_state b) ≡ true
@@ -74,7 +74,7 @@ module _ (b : List ℕ) (a : AcceptedTable b) where
   above_idle_lem =
       and_true (ltb 0 (2 ^ jobs_in b)) (every most_objects (declared_of_jobs (table_state b))) (lt-ltb 0 (2 ^ jobs_in b) (pow_pos (jobs_in b)))
       (every_true most_objects (declared_of_jobs (table_state b))
-      (λ o l h. lt-ltb _ (2 ^ jobs_in b) (union-lt (jobs_in b) _ _ (reads.of-jobs o) (writes.of_jobs_lem o))))
+      (λ o l h. lt-ltb _ (2 ^ jobs_in b) (union-lt (jobs_in b) _ _ (reads.of_jobs_lem o) (writes.of_jobs_lem o))))
 
   -- what is said of locks is said of none
   locks_fit_lem : locks_fit (table_state b) ≡ true

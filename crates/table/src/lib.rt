@@ -15,7 +15,7 @@ use state::{Counts, JobProcessors, ObjectSets, State};
 use table_bytes::{counts_in, table_length, table_refusal};
 
 // What the table reader returns: the refusal's number or 0, how many bytes the table has, its fresh state.
-#[derive(Drop)]
+#[derive(Clone, Copy)]
 pub struct TableRead {
     pub refusal: u8,
     pub used: usize,

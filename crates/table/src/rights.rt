@@ -10,7 +10,7 @@ use state::{JobProcessors, ObjectSets, SetsMut};
 use table_bytes::{entry_count, entry_start, wide};
 
 // The ranks that may read and that may write, by object.
-#[derive(Drop)]
+#[derive(Clone, Copy)]
 pub struct Rights {
     pub may_read: ObjectSets,
     pub may_write: ObjectSets,

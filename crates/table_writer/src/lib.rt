@@ -14,7 +14,7 @@ use state::State;
 use well_formed::is_well_formed;
 
 // What the table writer answers: the table's length, or the refusal's number.
-#[derive(Drop)]
+#[derive(Clone, Copy)]
 pub enum Written {
     Length(usize),
     Refused(u8),

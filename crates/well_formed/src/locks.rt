@@ -10,7 +10,7 @@ use ranks::{EMPTY, RankSet, union};
 use state::{Sets, union_of};
 
 // Of several objects together: the ranks declared, the ranks that hold a lock, and a set that is empty if each object by itself is in order.
-#[derive(Drop)]
+#[derive(Clone, Copy)]
 pub struct Survey {
     pub declared: RankSet,
     pub held: RankSet,

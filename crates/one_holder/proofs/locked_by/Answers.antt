@@ -1,0 +1,38 @@
+-- `one_holder::locked_by` meets its contract. The loop's invariant: the list has the objects that the rank holds of the first i. A turn passes a block over, or looks
+-- at one object. It ends because what is left of the objects falls.
+-- Assumes nothing.
+use mathlib.Core.Path.{◌≡◌, refl, sym, subst, ap, ◌∙◌}
+use Prim.Native.Nat.{ℕ, ◌+◌, ◌-◌, ◌≤◌}
+use native.Mathlib.Omega.{arith}
+use lib.ListN.{length, set, length-set}
+use Rattle.basics.specs.Arrays.{at_next}
+use Rattle.ranks.specs.Ranks.{member, union}
+use Rattle.state.specs.State.{most_objects}
+use Rattle.one_holder.specs.Gathering.{held_by, LocksTo, passed_small, locks_none, locks_passed, locks_next, nobody_locks}
+use borrow.Author.Rules.{rules}
+use Rattle.one_holder.proofs.locked_by.Goals as goal
+
+pub loop-i-preserved-then-free-ne0 : goal.loop-i-preserved-then-free-ne0
+loop-i-preserved-then-free-ne0 c =
+    let a = c.args in
+    let inv = c.loop-i.invariant in
+    let next = locks_passed a.readers.now a.writers.now a.rank a.counts.objects c.loop-i.i c.passed_over-free.result c.loop-i.count c.loop-i.objects c.if-free-ne0.true c.passed_over-free.ensures inv.3 in
+    (next.0, omega (arith, inv.1), inv.2, next.1)
+
+pub loop-i-preserved : goal.loop-i-preserved
+loop-i-preserved c =
+    let a = c.args in
+    let rd = a.readers.now in
+    let wr = a.writers.now in
+    let i = c.loop-i.i in
+    let inv = c.loop-i.invariant in
+    let held : c.contains-held.result ≡ held_by rd wr a.rank (i + 1) = c.contains-held.ensures ∙ ap (λ (set : ℕ). member set a.rank) (c.union.ensures ∙ sym (λ p. union (at_next rd i p) (at_next wr i p))) in
+    let next = locks_next rd wr a.rank a.counts.objects i c.loop-i.count c.loop-i.objects c.contains-held.result held (omega (arith, inv.1, inv.2)) (omega (arith, c.loop-i-test.true)) inv.3 in (
+      omega (arith, c.loop-i-test.true, c.requires),
+      omega (arith, c.one_if-count.ensures.1, inv.1),
+      length-set c.loop-i.objects c.loop-i.count (i + 1) ∙ inv.2,
+      subst (λ (n : ℕ). LocksTo rd wr a.rank a.counts.objects (i + 1) (set c.loop-i.objects c.loop-i.count (i + 1)) (c.loop-i.count + n)) (sym c.one_if-count.ensures.0) next,
+    )
+
+pub returns-then-rank-eq0 : goal.returns-then-rank-eq0
+returns-then-rank-eq0 c = nobody_locks c.args.readers.now c.args.writers.now c.args.rank c.args.counts.objects _ c.if-rank-eq0.true

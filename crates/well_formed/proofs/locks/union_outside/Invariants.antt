@@ -1,0 +1,20 @@
+-- `well_formed::union_outside` meets its contract. The loop's invariant: the union is that of the first k objects outside the table; a turn joins one more.
+-- It ends because what is left of them falls.
+-- Assumes nothing.
+use Prim.Native.Nat.{ℕ, ◌+◌, ◌-◌, ◌≤◌}
+use mathlib.Core.Path.{◌≡◌, refl, sym, ap, ap₂, ◌∙◌}
+use native.Mathlib.Nat.{add-suc}
+use native.Mathlib.Omega.{arith}
+use Rattle.ranks.specs.Ranks.{union, unions}
+use Rattle.ranks.specs.UnionLaws.{unions_next}
+use Rattle.state.specs.State.{most_objects}
+use Rattle.well_formed.specs.Survey.{all_of}
+use borrow.Author.Rules.{rules}
+use Rattle.well_formed.proofs.locks.union_outside.Given as goal
+
+abbrev pub invariant-loop-k : goal.invariant-loop-k
+invariant-loop-k l =
+    (l.k ≤ l.count) × (l.all ≡ unions l.k (λ j. all_of l.may_read l.may_write l.readers l.writers (l.from + j)))
+
+abbrev pub decreases-loop-k : goal.decreases-loop-k
+decreases-loop-k l = l.count - l.k

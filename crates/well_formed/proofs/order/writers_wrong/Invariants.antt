@@ -1,0 +1,26 @@
+-- `well_formed::writers_wrong` meets its contract. Where no writer of the block comes after the most urgent holder, each object is in order. Else the loop's
+-- invariant: the set is empty if and only if the writers of the first k objects of the block are in order; a turn joins those of one more that are not.
+-- It ends because what is left of the block falls.
+-- Assumes nothing.
+use Prim.Native.Nat.{ℕ, suc, ◌+◌, ◌-◌, ◌≤◌}
+use mathlib.Core.Path.{◌≡◌, refl, sym, ap, ap₂, ◌∙◌}
+use mathlib.Core.Bool.{◌&&◌, ◌||◌}
+use native.Mathlib.Numerals.{add-one}
+use native.Mathlib.Omega.{arith}
+use lib.Dec.{eqb}
+use Rattle.basics.specs.Arrays.{at}
+use Rattle.basics.specs.Loops.{every, every_more}
+use Rattle.ranks.specs.Ranks.{is_empty, common, but_first}
+use Rattle.ranks.specs.UnionLaws.{empty_union}
+use Rattle.state.specs.State.{marked}
+use Rattle.well_formed.specs.Survey.{block_size, reached, weighing_of, writers_ordered}
+use Rattle.well_formed.proofs.OrderLaws.{first_alone_all}
+use borrow.Author.Rules.{rules}
+use Rattle.well_formed.proofs.order.writers_wrong.Given as goal
+
+abbrev pub invariant-loop-k : goal.invariant-loop-k
+invariant-loop-k l =
+    (l.k ≤ block_size) × (is_empty l.wrong ≡ every l.k (λ j. writers_ordered l.held l.version l.may_read l.may_write l.writers l.certified (l.from + j)))
+
+abbrev pub decreases-loop-k : goal.decreases-loop-k
+decreases-loop-k l = block_size - l.k
