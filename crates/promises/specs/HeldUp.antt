@@ -19,7 +19,7 @@ use Rattle.refusals.specs.Refusals.{is_request}
 use Rattle.manager.specs.Step.{step}
 use Rattle.questions.specs.Answers.{named_reply}
 use Rattle.questions.specs.Questions.{ask_named_lock}
-use Rattle.theory.specs.Key.{key_named}
+use Rattle.theory.proofs.KeyLaws.{key_named}
 use Rattle.promises.specs.Terms.{AboveWriters}
 use Rattle.promises.specs.Weights.{lock_weight, lock_held, lock_small, lowest}
 use Rattle.promises.specs.View.{waiting_below, asks_named, named_lowest}

@@ -14,7 +14,7 @@ use Rattle.state.specs.WeightLaws.{read_writer, write_writer, write_any}
 use Rattle.weights.specs.Keys.{no_weight}
 use Rattle.theory.specs.Words.{Label}
 use Rattle.theory.specs.Modes.{Gives}
-use Rattle.theory.specs.Keeps.{wakens_waited}
+use Rattle.theory.proofs.Keeps.{wakens_waited}
 use Rattle.theory.specs.Lists.{Manages, MovesModes, KeepsLocksApart}
 use Rattle.promises.specs.Terms.{next, label}
 use Rattle.promises.specs.Weights.{lock_weight, lock_below}

@@ -34,7 +34,8 @@ use Rattle.manager.specs.Step.{step, step_accepted}
 use Rattle.basics.specs.Replies.{value}
 use Rattle.questions.specs.Answers.{rank_reply}
 use Rattle.questions.specs.Questions.{ask_running}
-use Rattle.theory.specs.Keeps.{TopHolder, named_top, top_not_waiting}
+use Rattle.theory.specs.Keeps.{TopHolder}
+use Rattle.theory.proofs.Keeps.{named_top, top_not_waiting}
 use Rattle.promises.specs.Terms.{named, old_request, NoSleeperAbove}
 use Rattle.promises.specs.Weights.{lock_weight, lock_below, lock_held}
 use Rattle.promises.specs.View.{as_number_true, view, waits_requested, no_request, names_lowest, seen}

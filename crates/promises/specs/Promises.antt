@@ -27,9 +27,10 @@ use Rattle.questions.specs.Questions.{ask_inherited_rank, ask_named_lock, ask_ce
 use Rattle.theory.specs.Words.{Ends, Demand3}
 use Rattle.theory.specs.WriteLocks.{HoldsWrite, WriteLocksStay, WritesCertified}
 use Rattle.theory.specs.Arrows.{OneByOne, OneOrder, NeverTogether, GrantsFirst}
-use Rattle.theory.specs.Keeps.{none_passes}
-use Rattle.theory.specs.WritesStay.{write_kept}
-use Rattle.theory.specs.Lists.{state_at, label_at, demand3_of, writes_stay_of, writes_shown_of, writes_certified_of, in_order_of}
+use Rattle.theory.proofs.Keeps.{none_passes}
+use Rattle.theory.proofs.WritesStay.{write_kept}
+use Rattle.theory.specs.Lists.{state_at, label_at}
+use Rattle.theory.proofs.Lists.{demand3_of, writes_stay_of, writes_shown_of, writes_certified_of, in_order_of}
 use Rattle.theory.specs.RunOrder.{InOrder}
 use Rattle.promises.specs.Terms.{Event, outcome_of, next, label, named, Reached, fresh, after}
 use Rattle.promises.specs.Terms.{MoreUrgentThanLocksOf, FirstOfLocks, old_request, NoSleeperAbove, AboveWriters, CeilingIs}

@@ -11,8 +11,9 @@ use Rattle.state.specs.WellFormedFacts.{facts}
 use Rattle.table.specs.Fresh.{Fresh}
 use Rattle.weights.specs.Keys.{no_weight}
 use Rattle.manager.specs.Keeping.{step_keeps}
-use Rattle.theory.specs.Machine.{FreshView, Invariant, fresh_invariant}
-use Rattle.theory.specs.Keeps.{step_invariant}
+use Rattle.theory.specs.Machine.{FreshView, Invariant}
+use Rattle.theory.proofs.Machine.{fresh_invariant}
+use Rattle.theory.proofs.Keeps.{step_invariant}
 use Rattle.theory.specs.Lists.{Manages, MovesModes}
 use Rattle.promises.specs.Terms.{next, label, Reached, fresh, after}
 use Rattle.promises.specs.View.{as_number, view, seen}

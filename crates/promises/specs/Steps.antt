@@ -30,8 +30,10 @@ use Rattle.events.specs.Events.{outcome, request_meeting, request, woken, wake, 
 use Rattle.manager.specs.Step.{step}
 use Rattle.theory.specs.Words.{Label, Ends}
 use Rattle.theory.specs.Machine.{MayRequest, Step}
-use Rattle.theory.specs.Build.{labelled, ends_run, nothing_step, refused_step, start_step, grant_step, wait_step, unlock_step, end_step}
-use Rattle.theory.specs.Modes.{ModeStep, nothing_modes, wait_modes, grant_modes, release_modes}
+use Rattle.theory.specs.Build.{labelled}
+use Rattle.theory.proofs.Build.{ends_run, nothing_step, refused_step, start_step, grant_step, wait_step, unlock_step, end_step}
+use Rattle.theory.specs.Modes.{ModeStep}
+use Rattle.theory.proofs.Modes.{nothing_modes, wait_modes, grant_modes, release_modes}
 use Rattle.promises.specs.Terms.{happened, label_of}
 use Rattle.promises.specs.Weights.{passes_all, fails_blocked}
 use Rattle.promises.specs.View.{as_number, view}

@@ -19,7 +19,7 @@ use Rattle.refusals.specs.Refusals.{job_refusal}
 use Rattle.questions.specs.Answers.{named_reply}
 use Rattle.questions.specs.Questions.{ask_named_lock}
 use Rattle.theory.specs.Machine.{View, Blocked, NamedLock, Seen}
-use Rattle.theory.specs.Key.{key_named}
+use Rattle.theory.proofs.KeyLaws.{key_named}
 use Rattle.promises.specs.Terms.{named}
 use Rattle.promises.specs.Weights.{lock_weight, lock_held, lock_small, lowest, blocked_fails}
 

@@ -17,7 +17,8 @@ use Rattle.weights.specs.KeyLaws.{KeyOfOther, key_below, key_at}
 use Rattle.rule.specs.Granting.{passes}
 use Rattle.rule.specs.GrantingTheorems.{others_lock}
 use Rattle.theory.specs.Machine.{Blocked, Passes}
-use Rattle.theory.specs.Key.{Lowest, key_passes, key_blocked}
+use Rattle.theory.specs.Key.{Lowest}
+use Rattle.theory.proofs.KeyLaws.{key_passes, key_blocked}
 
 -- a weight where a lock is held, else that of no lock, which is past every rank
 abbrev pub weight_if : Bool → ℕ → ℕ

@@ -178,7 +178,7 @@ module _ (label : ℕ → Label) where
   -- "the most urgent lock holder"
   pub record MostUrgentHolder (m t : ℕ) : Type 0 where
     pub holder : LockHolder m t
-    pub most_urgent_lem : (h : ℕ) → LockHolder h t → ¬ MoreUrgent h m
+    pub most_urgent : (h : ℕ) → LockHolder h t → ¬ MoreUrgent h m
 
   -- "name one and the same job, the most urgent lock holder, which isn't waiting"
   -- At time t job j, in its run that event `start` began, names `named_job`. (One and the same: same-name in Demand.)
@@ -186,7 +186,7 @@ module _ (label : ℕ → Label) where
     pub named_job : ℕ
     pub start : ℕ
     pub names : Names named j start named_job t
-    pub most_urgent_holder_lem : MostUrgentHolder named_job t
+    pub most_urgent_holder : MostUrgentHolder named_job t
     pub not_waiting : ¬ Waiting named_job t
 
   -- "After it all waiting jobs name one and the same job, the most urgent lock holder, which isn't waiting."
