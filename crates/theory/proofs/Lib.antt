@@ -2,6 +2,7 @@
 pub mod Machine
 pub mod Keeps
 pub mod Links
+pub mod GrantsFirst
 pub mod Demand
 pub mod Build
 pub mod Modes

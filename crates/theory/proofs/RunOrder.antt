@@ -1,5 +1,5 @@
 -- Finished runs as if one by one (Arrows), of any events from a fresh state, where each event is a Step and a ModeStep and keeps conflicting locks apart.
--- A run is granted nothing once it has released a lock (Links). So an arrow leads from a run whose grants are all past to one that has a grant to come,
+-- A run is granted nothing once it has released a lock (GrantsFirst). So an arrow leads from a run whose grants are all past to one that has a grant to come,
 -- which gives claims 2 and 3, and that there is no arrow both ways. Of two finished runs granted conflicting locks on one object the last locks there
 -- conflict too, and the later one was granted once the other was released (LastLocks): that is the arrow.
 use Rattle.std.specs.Prelude.{◌≡◌, refl, ◌≢◌, ◌⊎◌, ℕ, zero, suc, ◌≤◌, ◌<◌}
@@ -7,22 +7,20 @@ use Rattle.std.proofs.Common.{sym, subst, ◌∙◌, inl, inr, arith}
 use Rattle.std.proofs.Math.Decide.{ℕ_discrete, dec_le, dec_lt}
 use Rattle.theory.specs.Words.{Label, Starts, Never, Grant}
 use Rattle.theory.specs.Arrows.{Finished, Released, LastGrant, ReleasedBefore, Arrow, Leads, arrow, follow, InConflict, Claim1, Claim2, OneByOne}
-use Rattle.theory.specs.Arrows.{Place, at_last_grant, at_start, OneOrder, GrantsFirst}
+use Rattle.theory.specs.Arrows.{Place, at_last_grant, at_start, OneOrder}
 use Rattle.theory.specs.Machine.{View}
 use Rattle.theory.specs.Modes.{Modes, ModeStep, KeepsApart}
 use Rattle.theory.specs.RunOrder.{InOrder}
 use Rattle.theory.proofs.Keeps.{taking, wakens_waited, takes_one}
 use Rattle.theory.specs.Links.{Trace}
 use Rattle.theory.proofs.Links.{extend, nothing_between, grant_takes, takes_grant, one_taker, grants_apart, granted_earlier}
+use Rattle.theory.proofs.GrantsFirst.{trace_grants_first}
 use Rattle.theory.proofs.ConflictLaws.{conflict_last, in_conflict_turned}
 use Rattle.theory.proofs.LastLocks.{finish_ends, trace_never_together, last_lock, released_before}
 
 module _ {N version : ℕ} {view : ℕ → View} {modes : ℕ → Modes} {label : ℕ → Label} (T : Trace N view label)
     (M : (i : ℕ) → ModeStep (view i) (modes i) (label i) (modes (suc i)))
     (K : (i : ℕ) → KeepsApart version (view i) (modes i) (label i)) where
-  trace_grants_first : GrantsFirst label
-  trace_grants_first m j k o i p g r v = granted_earlier T j k o i p g r.held.holds.run r.unlock_or_end v
-
   -- ---- two runs in conflict
 
   -- the last locks of the two there conflict too
@@ -119,7 +117,7 @@ module _ {N version : ℕ} {view : ℕ → View} {modes : ℕ → Modes} {label 
       let z = a.there in
       omega (
         arith,
-        trace_grants_first z.released_mode j k a.object z.release x.object g z.released x.grant,
+        trace_grants_first T z.released_mode j k a.object z.release x.object g z.released x.grant,
         z.before,
         last_least y a.object z.grant z.granted.grant,
       )
@@ -215,5 +213,5 @@ module _ {N version : ℕ} {view : ℕ → View} {modes : ℕ → Modes} {label 
     one_by_one = trace_one_by_one;
     one_order = trace_one_order;
     never_together = trace_never_together T M K;
-    grants_first = trace_grants_first;
+    grants_first = trace_grants_first T;
   }
