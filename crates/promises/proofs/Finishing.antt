@@ -19,7 +19,8 @@ use Rattle.events.specs.Answers.{Paper, paper}
 use Rattle.events.specs.Events.{request_meeting, woken, wake, accepted}
 use Rattle.manager.specs.Step.{step, step_refused}
 use Rattle.promises.specs.Terms.{is_granted, is_waits, is_done, happened}
-use Rattle.promises.specs.LockModes.{mode_if, held_mode, unwritten_mode}
+use Rattle.promises.specs.LockModes.{held_mode}
+use Rattle.promises.proofs.CertifiedLocks.{not_25_modes}
 
 -- ---- an event keeps the table's counts, the version among them
 
@@ -50,19 +51,6 @@ unfolding step
 step_counts s k r o = either_way (λ (x : Outcome). x.state.counts) (eqb (refusal s k r o) 0) (accepted_counts s k r o) refl
 
 -- ---- a finish
-
--- "25, on a version 2 table finish with a write lock not certified": where it does not refuse, no lock of the job is held to write and not certified
-not_25_modes : (s : State) → Facts s → s.counts.version ≡ 2 → (r : ℕ) → all_certified s r ≡ true → (o : ℕ) → held_mode s r o ≢ write
-unfolding all_certified
-not_25_modes s F second r all o = go (holds s write r o) refl (is_certified s o) refl
-  where
-    go : (writes : Bool) → holds s write r o ≡ writes → (marked : Bool) → is_certified s o ≡ marked → mode_if writes marked (holds s read r o) ≢ write
-    go true h true e q = omega arith
-    go true h false e q =
-        let object = held_object s F write r o h in
-        let fits = every-at s.counts.objects (λ p. not (holds s write r p) || shares_with_none s p) o all object.0 object.1 in
-        clash (simp (h, e, ne_eqb s.counts.version 1 (λ z. omega arith)) at fits) refl
-    go false h marked e q = omega (arith, unwritten_mode marked (holds s read r o))
 
 -- an event whose label is that of a finish is of kind 5
 finish_kind : (k : ℕ) (p : Paper) → happened k p ≡ 5 → k ≡ 5
