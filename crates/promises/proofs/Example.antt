@@ -7,7 +7,6 @@ use Rattle.std.specs.Int.Count.{count_trailing_zeros, ones}
 use Rattle.basics.specs.Loops.{every, least, first_nonzero}
 use Rattle.basics.specs.Arrays.{mapped}
 use Rattle.ranks.specs.Ranks.{member, with, without, first, most_urgent, unions}
-use Rattle.state.specs.declared.State.{State}
 use Rattle.state.specs.State.{read, all_holders, mark, kept_in, drop_marks, activate, await, grant, release, fall_asleep, awaken, end_run}
 use Rattle.state.specs.WellFormed.{processors_fit, declarations_fit, above_idle, locks_fit, one_lock_each}
 use Rattle.state.specs.WellFormed.{writers_alone, waits_fit, marks_fit, certifies_fit, sleepers_fit, holder_fits, holders_in_order, well_formed}

@@ -1,15 +1,13 @@
 -- An event keeps the version; and in version 2 a job that finishes has no write lock that is not certified, by refusal 25.
 -- Assumes nothing.
-use Rattle.std.specs.Prelude.{◌≡◌, refl, ◌≢◌, Bool, true, false, not, ◌||◌, ℕ, zero, suc, eqb}
-use Rattle.std.proofs.Common.{subst, ap, arith, ne_eqb}
+use Rattle.std.specs.Prelude.{◌≡◌, refl, ◌≢◌, Bool, true, false, ◌||◌, ℕ, zero, suc, eqb}
+use Rattle.std.proofs.Common.{subst, ap, arith}
 use Rattle.std.proofs.lemmas.Bool.{not-false}
-use Rattle.basics.specs.Choice.{if◌then◌else◌, clash, between}
-use Rattle.basics.specs.Loops.{every-at}
+use Rattle.basics.specs.Choice.{if◌then◌else◌, between}
 use Rattle.state.specs.declared.Counts.{Counts}
 use Rattle.state.specs.declared.State.{State}
-use Rattle.state.specs.State.{read, write, holds, is_certified, shares_with_none, activate, await, grant, release, fall_asleep, awaken, end_run}
+use Rattle.state.specs.State.{write, activate, await, grant, release, fall_asleep, awaken, end_run}
 use Rattle.state.specs.Facts.{Facts}
-use Rattle.state.specs.WellFormedFacts.{held_object}
 use Rattle.weights.specs.Keys.{lowest_key}
 use Rattle.rule.specs.Granting.{passes_below, wakeable}
 use Rattle.refusals.specs.Refusals.{is_request, mode_of, all_certified, refusal}

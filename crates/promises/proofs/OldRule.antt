@@ -14,7 +14,7 @@ use Rattle.basics.specs.Choice.{if◌then◌else◌, ◌if◌else◌, or_right}
 use Rattle.basics.specs.Loops.{least, least_top, least-le, least_at}
 use Rattle.ranks.specs.Ranks.{member}
 use Rattle.state.specs.declared.State.{State}
-use Rattle.state.specs.State.{most_jobs, most_objects, read, write, processor_of_job, holders, holds, holds_any, is_active, is_sleeping, request_of}
+use Rattle.state.specs.State.{most_jobs, most_objects, read, write, holders, holds, holds_any, is_active, is_sleeping, request_of}
 use Rattle.state.specs.Facts.{Facts}
 use Rattle.state.specs.Modes.{either_mode}
 use Rattle.state.specs.WellFormedFacts.{facts_well_formed, held_rank}

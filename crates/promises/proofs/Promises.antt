@@ -156,7 +156,7 @@ nobody_to_wake {t} r = nobody_left t (no_waiting_request_passes r)
 -- "Equality with it is claimed for one state, reached from a fresh one by any events, and one request of the job that
 -- the only processor runs: the same grant or wait, the same named lock." A request is of kind 2, 3 or 7, and not refused, the fourth answer.
 -- 02, CR 6: "The old rule's equality is for version 1 alone." 02, CR 8: "Answers equal the old rule's where no more urgent holder sleeps."
--- The condition is needed: in the state `slept`, which is reached, such a request is answered otherwise (`asleep_differs` in Example.antt).
+-- The condition is needed: in the state `slept`, which is reached, such a request is answered otherwise (`asleep_differs` in proofs/Example.antt).
 pub one_processor : {t : State} → Reached t → t.counts.version ≡ 1 → t.counts.processors ≡ 1
     → (e : Event) → is_request e.kind ≡ true → value (rank_reply (ask_running t 0)) 0 0 ≡ e.rank → NoSleeperAbove t e.rank
     → (paper (outcome_of t e).answer).number ≢ 4
@@ -184,7 +184,7 @@ module _ (s : State) (sleepers : ℕ) (well : well_formed s ≡ true) (well_too 
   sleeping_inherits_nothing = inherited_rank_same s sleepers (well_too ∙ sym well)
 
 -- ---- NOBODY IS ONE PAST THE LAST RANK
--- 02, CR 4, of any well-formed state, handed in or reached. The rule with 65 for nobody, which stood before, is in NobodyAs65.antt:
+-- 02, CR 4, of any well-formed state, handed in or reached. The rule with 65 for nobody, which stood before, is in specs/NobodyAs65.antt:
 pub nobody_was : ceiling65 0 ≡ 65
 nobody_was = first_empty most_jobs
 

@@ -1,13 +1,13 @@
 -- The question for the named lock gives what the theory of demand 3 asks of it, in what a state of the manager shows to it (specs/View).
 -- Assumes nothing.
-use Rattle.std.specs.Prelude.{◌≡◌, ◌≢◌, Bool, not, [], ◌∷◌, ℕ, ◌+◌, ◌<◌}
+use Rattle.std.specs.Prelude.{◌≡◌, ◌≢◌, Bool, [], ◌∷◌, ℕ, ◌+◌, ◌<◌}
 use Rattle.std.proofs.Math.Path.{refl}
 use Rattle.std.proofs.Common.{sym, subst, arith}
 use Rattle.std.proofs.Math.Bool.{true, false}
 use Rattle.std.proofs.Math.Decide.{ℕ_discrete}
 use Rattle.std.proofs.Math.Dec.{eqb}
 use borrow.Author.Tests.{eq-eqb, ne_eqb, ltb-false}
-use Rattle.basics.specs.Choice.{if◌then◌else◌, ◌if◌else◌, inside_between}
+use Rattle.basics.specs.Choice.{inside_between}
 use Rattle.basics.specs.Replies.{told}
 use Rattle.state.specs.declared.State.{State}
 use Rattle.state.specs.State.{most_objects, request_of, requested_object}

@@ -1,9 +1,8 @@
 -- What the manager's locks weigh, as the theory sees them (specs/Weights): first laws of that weight, then what the lowest key says of it.
 -- Assumes nothing.
-use Rattle.std.specs.Prelude.{◌≡◌, refl, ◌≢◌, ◌⊎◌, Bool, true, false, ℕ, ◌≤◌, ◌<◌, min}
+use Rattle.std.specs.Prelude.{◌≡◌, refl, ◌≢◌, ◌⊎◌, Bool, true, false, ℕ, ◌≤◌, ◌<◌}
 use Rattle.std.proofs.Common.{subst, ap, inl, inr, arith, ltb-true, ltb-false}
 use Rattle.std.proofs.Math.Decide.{dec_le}
-use Rattle.basics.specs.Choice.{if◌then◌else◌}
 use Rattle.state.specs.declared.State.{State}
 use Rattle.state.specs.State.{read, write, holds}
 use Rattle.state.specs.Facts.{Facts}
