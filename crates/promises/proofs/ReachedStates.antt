@@ -11,14 +11,16 @@ use Rattle.state.specs.WellFormedFacts.{facts}
 use Rattle.table.specs.Fresh.{Fresh}
 use Rattle.weights.specs.Keys.{no_weight}
 use Rattle.manager.specs.Keeping.{step_keeps}
-use Rattle.theory.specs.Machine.{FreshView, Invariant, fresh_invariant}
-use Rattle.theory.specs.Keeps.{step_invariant}
+use Rattle.theory.specs.Machine.{FreshView, Invariant}
+use Rattle.theory.proofs.Machine.{fresh_invariant}
+use Rattle.theory.proofs.Keeps.{step_invariant}
 use Rattle.theory.specs.Lists.{Manages, MovesModes}
 use Rattle.promises.specs.Terms.{next, label, Reached, fresh, after}
-use Rattle.promises.specs.View.{as_number, view, seen}
-use Rattle.promises.specs.Frames.{no_weight_lem}
+use Rattle.promises.specs.View.{as_number, view}
+use Rattle.promises.proofs.View.{seen}
+use Rattle.promises.proofs.Frames.{no_weight_lem}
 use Rattle.promises.specs.LockModes.{modes}
-use Rattle.promises.specs.Steps.{step_goes}
+use Rattle.promises.proofs.Steps.{step_goes}
 
 -- ---- a fresh state
 

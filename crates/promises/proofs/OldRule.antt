@@ -14,7 +14,7 @@ use Rattle.basics.specs.Choice.{if◌then◌else◌, ◌if◌else◌, or_right}
 use Rattle.basics.specs.Loops.{least, least_top, least-le, least_at}
 use Rattle.ranks.specs.Ranks.{member}
 use Rattle.state.specs.declared.State.{State}
-use Rattle.state.specs.State.{most_jobs, most_objects, read, write, processor_of_job, holders, holds, holds_any, is_active, is_sleeping, request_of}
+use Rattle.state.specs.State.{most_jobs, most_objects, read, write, holders, holds, holds_any, is_active, is_sleeping, request_of}
 use Rattle.state.specs.Facts.{Facts}
 use Rattle.state.specs.Modes.{either_mode}
 use Rattle.state.specs.WellFormedFacts.{facts_well_formed, held_rank}
@@ -34,12 +34,16 @@ use Rattle.manager.specs.Step.{step, step_accepted}
 use Rattle.basics.specs.Replies.{value}
 use Rattle.questions.specs.Answers.{rank_reply}
 use Rattle.questions.specs.Questions.{ask_running}
-use Rattle.theory.specs.Keeps.{TopHolder, named_top, top_not_waiting}
+use Rattle.theory.specs.Keeps.{TopHolder}
+use Rattle.theory.proofs.Keeps.{named_top, top_not_waiting}
 use Rattle.promises.specs.Terms.{named, old_request, NoSleeperAbove}
-use Rattle.promises.specs.Weights.{lock_weight, lock_below, lock_held}
-use Rattle.promises.specs.View.{as_number_true, view, waits_requested, no_request, names_lowest, seen}
-use Rattle.promises.specs.Requests.{accepted_request, refused_number}
-use Rattle.promises.specs.ReachedStates.{Kept}
+use Rattle.promises.specs.Weights.{lock_weight}
+use Rattle.promises.proofs.Weights.{lock_below, lock_held}
+use Rattle.promises.specs.View.{view}
+use Rattle.promises.proofs.View.{as_number_true, waits_requested, no_request, names_lowest, seen}
+use Rattle.promises.proofs.Requests.{accepted_request, refused_number}
+use Rattle.promises.proofs.ReachedStates.{Kept}
+use Rattle.promises.proofs.OnlyProcessor.{ready_key_lem}
 
 -- ---- the two weights
 
@@ -108,15 +112,9 @@ module _ (s : State) (K : Kept s) (first : s.counts.version ≡ 1) (one : s.coun
       go x false e true g z = omega (arith, simp (ne_eqb 0 j (λ y. omega arith)) at z)
       go x false e false g z = omega (arith, simp (ne_eqb (key_holder (lowest_key s x)) j (another x (eqb-false (request_of s x) 0 e) g)) at z)
 
-  ready_key_lem : (y : ℕ) → 1 ≤ y → y ≤ s.counts.jobs → is_active s y ≡ true → is_sleeping s y ≡ false → request_of s y ≡ 0
-      → ready_key s 0 y ≡ R.inherited_rank s y * 256 + y
-  ready_key_lem y a b active awake free =
-      let p : processor_of_job s y ≡ 0 = omega (arith, F.processors y a b) in
-      simp (eq-eqb (processor_of_job s y) 0 p, active, awake, eq-eqb (request_of s y) 0 free)
-
   ready_below : (y : ℕ) → 1 ≤ y → y ≤ s.counts.jobs → is_active s y ≡ true → is_sleeping s y ≡ false → request_of s y ≡ 0 → run_key s 0 ≤ y * 256 + y
   ready_below y a b active awake free =
-      omega (arith, least-le s.counts.jobs no_key (ready_key s 0) y a b, ready_key_lem y a b active awake free, inherits_low y)
+      omega (arith, least-le s.counts.jobs no_key (ready_key s 0) y a b, ready_key_lem s K first one y a b active awake free, inherits_low y)
 
   -- a lock in some mode is one in either
   held_any : (m y q : ℕ) → holds s m y q ≡ true → holds_any s y q ≡ true

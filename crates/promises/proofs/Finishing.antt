@@ -1,15 +1,13 @@
 -- An event keeps the version; and in version 2 a job that finishes has no write lock that is not certified, by refusal 25.
 -- Assumes nothing.
-use Rattle.std.specs.Prelude.{◌≡◌, refl, ◌≢◌, Bool, true, false, not, ◌||◌, ℕ, zero, suc, eqb}
-use Rattle.std.proofs.Common.{subst, ap, arith, ne_eqb}
+use Rattle.std.specs.Prelude.{◌≡◌, refl, ◌≢◌, Bool, true, false, ◌||◌, ℕ, zero, suc, eqb}
+use Rattle.std.proofs.Common.{subst, ap, arith}
 use Rattle.std.proofs.lemmas.Bool.{not-false}
-use Rattle.basics.specs.Choice.{if◌then◌else◌, clash, between}
-use Rattle.basics.specs.Loops.{every-at}
+use Rattle.basics.specs.Choice.{if◌then◌else◌, between}
 use Rattle.state.specs.declared.Counts.{Counts}
 use Rattle.state.specs.declared.State.{State}
-use Rattle.state.specs.State.{read, write, holds, is_certified, shares_with_none, activate, await, grant, release, fall_asleep, awaken, end_run}
+use Rattle.state.specs.State.{write, activate, await, grant, release, fall_asleep, awaken, end_run}
 use Rattle.state.specs.Facts.{Facts}
-use Rattle.state.specs.WellFormedFacts.{held_object}
 use Rattle.weights.specs.Keys.{lowest_key}
 use Rattle.rule.specs.Granting.{passes_below, wakeable}
 use Rattle.refusals.specs.Refusals.{is_request, mode_of, all_certified, refusal}
@@ -19,7 +17,8 @@ use Rattle.events.specs.Answers.{Paper, paper}
 use Rattle.events.specs.Events.{request_meeting, woken, wake, accepted}
 use Rattle.manager.specs.Step.{step, step_refused}
 use Rattle.promises.specs.Terms.{is_granted, is_waits, is_done, happened}
-use Rattle.promises.specs.LockModes.{mode_if, held_mode, unwritten_mode}
+use Rattle.promises.specs.LockModes.{held_mode}
+use Rattle.promises.proofs.CertifiedLocks.{not_25_modes}
 
 -- ---- an event keeps the table's counts, the version among them
 
@@ -50,19 +49,6 @@ unfolding step
 step_counts s k r o = either_way (λ (x : Outcome). x.state.counts) (eqb (refusal s k r o) 0) (accepted_counts s k r o) refl
 
 -- ---- a finish
-
--- "25, on a version 2 table finish with a write lock not certified": where it does not refuse, no lock of the job is held to write and not certified
-not_25_modes : (s : State) → Facts s → s.counts.version ≡ 2 → (r : ℕ) → all_certified s r ≡ true → (o : ℕ) → held_mode s r o ≢ write
-unfolding all_certified
-not_25_modes s F second r all o = go (holds s write r o) refl (is_certified s o) refl
-  where
-    go : (writes : Bool) → holds s write r o ≡ writes → (marked : Bool) → is_certified s o ≡ marked → mode_if writes marked (holds s read r o) ≢ write
-    go true h true e q = omega arith
-    go true h false e q =
-        let object = held_object s F write r o h in
-        let fits = every-at s.counts.objects (λ p. not (holds s write r p) || shares_with_none s p) o all object.0 object.1 in
-        clash (simp (h, e, ne_eqb s.counts.version 1 (λ z. omega arith)) at fits) refl
-    go false h marked e q = omega (arith, unwritten_mode marked (holds s read r o))
 
 -- an event whose label is that of a finish is of kind 5
 finish_kind : (k : ℕ) (p : Paper) → happened k p ≡ 5 → k ≡ 5

@@ -1,4 +1,4 @@
--- Nobody by the table: what the question for ceilings gives in a well-formed state, and that the rule and the rule with 65 for nobody (NobodyAs65.antt)
+-- Nobody by the table: what the question for ceilings gives in a well-formed state, and that the rule and the rule with 65 for nobody (specs/NobodyAs65.antt)
 -- else say the same there. Each lock that is held weighs the same by both, since its holder is a rank of the table and may lock its object; so each
 -- lowest key is the same, and all that follows from it. A holder is more urgent than nobody by both, so that the reason is the same too.
 -- Assumes nothing.
@@ -24,7 +24,7 @@ use Rattle.state.specs.Weights.{more_urgent, ceiling_of, write_ceiling_of, absol
 use Rattle.state.specs.WeightLaws.{ceiling_none, ceiling_least, ceiling_in}
 use Rattle.weights.specs.Keys.{no_key, key_weight, key_holder, key_object, Weigh, lowest_key_by, lowest_key, old_lowest_key}
 use Rattle.weights.specs.KeyLaws.{KeyOfOther, key_at, key_above, stops_same, same_lowest_key}
-use Rattle.rule.specs.Granting.{passes_below, passes, named_key_of, named_key, conflicts, reason, wakes, wakeable}
+use Rattle.rule.specs.Granting.{passes_below, named_key_of, named_key, conflicts, reason, wakes, wakeable}
 use Rattle.inheritance.specs.Running as R
 use Rattle.inheritance.specs.Running.{inherited_from, is_ready, running_rank}
 use Rattle.refusals.specs.Refusals.{refusal, job_refusal, object_refusal, processor_refusal}

@@ -22,10 +22,13 @@ use Rattle.events.specs.Keeping.{by_search}
 use Rattle.theory.specs.Machine.{Passes, Blocked}
 use Rattle.theory.specs.Build.{Woke}
 use Rattle.theory.specs.Modes.{WokeModes}
-use Rattle.promises.specs.Weights.{lock_weight, passes_all, fails_blocked, blocked_fails}
-use Rattle.promises.specs.View.{view, requested_waits, waits_requested, waiting_below}
-use Rattle.promises.specs.Frames.{requested_frame, took_grant}
-use Rattle.promises.specs.LockModes.{modes, mode_frame, asked_frame, given_grant}
+use Rattle.promises.specs.Weights.{lock_weight}
+use Rattle.promises.proofs.Weights.{passes_all, fails_blocked, blocked_fails}
+use Rattle.promises.specs.View.{view}
+use Rattle.promises.proofs.View.{requested_waits, waits_requested, waiting_below}
+use Rattle.promises.proofs.Frames.{requested_frame, took_grant}
+use Rattle.promises.specs.LockModes.{modes}
+use Rattle.promises.proofs.LockModes.{mode_frame, asked_frame, given_grant}
 
 -- ---- one waiting job
 

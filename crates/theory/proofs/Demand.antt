@@ -11,8 +11,10 @@ use Rattle.std.proofs.Common.{sym, subst, ◌∙◌, inl, inr, arith}
 use Rattle.std.proofs.Math.Decide.{ℕ_discrete, dec_le, dec_lt, le_ind}
 use Rattle.theory.specs.Words.{Label, Waits, Ends, Abandons, Wakens, Never, Run, Pending, after_waits, Waiting, Grant, FirstLock, ThoseEnded, Meanwhile, EndsLast, MostUrgentHolder, Sentence1, Sentence2, GrantedBy, Excepted, abandoned, took_first_lock, Sentence3, Demand3}
 use Rattle.theory.specs.Machine.{View, TurnsWait, Seen, Invariant}
-use Rattle.theory.specs.Keeps.{Takes, taking, took_or_kept, began_wait, takes_may, takes_stays, takes_one, taker_held, blockers_shrink, TopHolder, named_lock, named_top, top_not_waiting, one_blocker}
-use Rattle.theory.specs.Links.{Trace, extend, nothing_between, EndsRun, run_before, run_through, pending_on, pending_first, grant_run, invariant, pending_requested, active_run, takes_grant, grant_kept, holds_held, held_holds}
+use Rattle.theory.specs.Keeps.{Takes, TopHolder}
+use Rattle.theory.proofs.Keeps.{taking, took_or_kept, began_wait, takes_may, takes_stays, takes_one, taker_held, blockers_shrink, named_lock, named_top, top_not_waiting, one_blocker}
+use Rattle.theory.specs.Links.{Trace}
+use Rattle.theory.proofs.Links.{extend, nothing_between, EndsRun, run_before, run_through, pending_on, pending_first, grant_run, invariant, pending_requested, active_run, takes_grant, grant_kept, holds_held, held_holds}
 
 -- some number has the property, or none below n has
 find : (P : ℕ → Type 0) → ((i : ℕ) → Dec (P i)) → (n : ℕ) → ((i : ℕ) × P i) ⊎ ((i : ℕ) → i < n → ¬ P i)
@@ -65,7 +67,7 @@ module _ {N M : ℕ} {view : ℕ → View} {label : ℕ → Label} (T : Trace N 
       let h = held_holds T m u.0.0 t u.0.1 in
       record {
         holder = record { start = h.0; object = u.0.0; holds = h.1 };
-        most_urgent_lem = λ x y z. omega (arith, u.1 x y.object (holds_held T x y.start y.object t y.holds));
+        most_urgent = λ x y z. omega (arith, u.1 x y.object (holds_held T x y.start y.object t y.holds));
       }
 
   one : (t : ℕ) → Sentence1 label named t
@@ -78,7 +80,7 @@ module _ {N M : ℕ} {view : ℕ → View} {label : ℕ → Label} (T : Trace N 
         named_job = m;
         start = r.0;
         names = record { run = r.1; question_gives = refl };
-        most_urgent_holder_lem = top_most_urgent m t u;
+        most_urgent_holder = top_most_urgent m t u;
         not_waiting = λ w'. waiting_waits m t w' (top_not_waiting (I t) (W t) m u);
       }
 
@@ -300,8 +302,8 @@ pub same_name : (label : ℕ → Label) (named : ℕ → ℕ → ℕ) → Demand
 same_name label named D t j j' w w' =
     let x = D.one t j w in
     let y = D.one t j' w' in
-    let not_less = x.most_urgent_holder_lem.most_urgent_lem y.named_job y.most_urgent_holder_lem.holder in
-    let not_more = y.most_urgent_holder_lem.most_urgent_lem x.named_job x.most_urgent_holder_lem.holder in
+    let not_less = x.most_urgent_holder.most_urgent y.named_job y.most_urgent_holder.holder in
+    let not_more = y.most_urgent_holder.most_urgent x.named_job x.most_urgent_holder.holder in
     omega (arith, x.names.question_gives, y.names.question_gives)
 
 -- "Meanwhile is from the event that began the wait to the one that ended the last of those runs": from event r to event e

@@ -9,10 +9,11 @@ use Rattle.theory.specs.WriteLocks.{GrantIn, HoldsIn, Finishes}
 use Rattle.theory.specs.Arrows.{Conflict, Finished, Released, InConflict, NeverTogether}
 use Rattle.theory.specs.Machine.{View, Releases}
 use Rattle.theory.specs.Modes.{Modes, Gives, ModeStep, KeepsApart}
-use Rattle.theory.specs.Keeps.{takes_took}
-use Rattle.theory.specs.Links.{Trace, extend, nothing_between, run_before, grant_run, one_run, grant_takes, grants_apart, granted_earlier}
-use Rattle.theory.specs.HeldModes.{grant_gives, not_released, held_in, HoldsFrom, holds_since}
-use Rattle.theory.specs.ConflictLaws.{conflict_turned, conflict_meets}
+use Rattle.theory.proofs.Keeps.{takes_took}
+use Rattle.theory.specs.Links.{Trace}
+use Rattle.theory.proofs.Links.{extend, nothing_between, run_before, grant_run, one_run, grant_takes, grants_apart, granted_earlier}
+use Rattle.theory.proofs.HeldModes.{grant_gives, not_released, held_in, HoldsFrom, holds_since}
+use Rattle.theory.proofs.ConflictLaws.{conflict_turned, conflict_meets}
 
 module _ (label : ℕ → Label) where
   pub finish_ends : {j k f : ℕ} → Finishes label j k f → Ends (label f) j

@@ -24,7 +24,7 @@ use Rattle.manager.specs.Step.{step, step_accepted}
 use Rattle.questions.specs.declared.RankAnswer.{RankAnswer}
 use Rattle.questions.specs.declared.NamedAnswer.{NamedAnswer}
 use Rattle.questions.specs.Questions.{ask_inherited_rank, ask_named_lock}
-use Rattle.promises.specs.Requests.{none_refuses}
+use Rattle.promises.proofs.Requests.{none_refuses}
 
 -- ---- the rules
 

@@ -6,10 +6,10 @@ use Rattle.std.proofs.Common.{inl, inr, arith}
 use Rattle.theory.specs.Words.{Label, Ends, Run, by_that_answer, after_waits}
 use Rattle.theory.specs.WriteLocks.{GrantIn}
 use Rattle.theory.specs.Arrows.{Conflict, either_writes, one_of_three, Released, Arrow}
-use Rattle.theory.specs.Keeps.{ends_kind}
-use Rattle.theory.specs.Links.{run_before}
+use Rattle.theory.proofs.Keeps.{ends_kind}
+use Rattle.theory.proofs.Links.{run_before}
 use Rattle.theory.specs.Build.{labelled}
-use Rattle.theory.specs.ConflictLaws.{conflict_modes}
+use Rattle.theory.proofs.ConflictLaws.{conflict_modes}
 
 -- ---- the pairs
 

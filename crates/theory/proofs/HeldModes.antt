@@ -6,9 +6,10 @@ use Rattle.std.proofs.Math.Decide.{ℕ_discrete, dec_le, le_ind}
 use Rattle.theory.specs.Words.{Label, Waits, Never, Run, Pending, by_that_answer, after_waits, Grant, Holds}
 use Rattle.theory.specs.WriteLocks.{GrantIn, HoldsIn}
 use Rattle.theory.specs.Machine.{View, Releases, TurnsWait}
-use Rattle.theory.specs.Keeps.{began_wait, takes_stays}
-use Rattle.theory.specs.Links.{Trace, extend, nothing_between, run_on, run_before, pending_before, grant_run, holds_on}
-use Rattle.theory.specs.Links.{one_run, pending_requested, grant_takes, takes_own, grant_held, held_holds}
+use Rattle.theory.proofs.Keeps.{began_wait, takes_stays}
+use Rattle.theory.specs.Links.{Trace}
+use Rattle.theory.proofs.Links.{extend, nothing_between, run_on, run_before, pending_before, grant_run, holds_on}
+use Rattle.theory.proofs.Links.{one_run, pending_requested, grant_takes, takes_own, grant_held, held_holds}
 use Rattle.theory.specs.Modes.{Modes, Gives, Given, ModeStep}
 
 module _ {N : ℕ} {view : ℕ → View} {modes : ℕ → Modes} {label : ℕ → Label} (T : Trace N view label)

@@ -7,9 +7,10 @@ use Rattle.theory.specs.Words.{Label, Unlocks, Ends}
 use Rattle.theory.specs.WriteLocks.{HoldsIn, HoldsWrite, WriteLocksStay}
 use Rattle.theory.specs.Machine.{View, Releases}
 use Rattle.theory.specs.Keeps.{Takes}
-use Rattle.theory.specs.Links.{Trace, grant_run}
+use Rattle.theory.specs.Links.{Trace}
+use Rattle.theory.proofs.Links.{grant_run}
 use Rattle.theory.specs.Modes.{Modes, Gives, ModeStep}
-use Rattle.theory.specs.HeldModes.{held_in, HoldsFrom, holds_since}
+use Rattle.theory.proofs.HeldModes.{held_in, HoldsFrom, holds_since}
 
 -- ---- one event
 

@@ -8,10 +8,11 @@ use Rattle.std.proofs.Math.Decide.{le_ind}
 use Rattle.theory.specs.Words.{Label, Run}
 use Rattle.theory.specs.WriteLocks.{GrantIn, WritesCertified}
 use Rattle.theory.specs.Machine.{View, Releases}
-use Rattle.theory.specs.Links.{Trace, run_before, grant_run}
+use Rattle.theory.specs.Links.{Trace}
+use Rattle.theory.proofs.Links.{run_before, grant_run}
 use Rattle.theory.specs.Modes.{Modes, ModeStep, FinishesCertified}
-use Rattle.theory.specs.HeldModes.{grant_given, same_or_granted}
-use Rattle.theory.specs.WritesStay.{not_unlocked}
+use Rattle.theory.proofs.HeldModes.{grant_given, same_or_granted}
+use Rattle.theory.proofs.WritesStay.{not_unlocked}
 
 module _ {N : ℕ} {view : ℕ → View} {modes : ℕ → Modes} {label : ℕ → Label} (T : Trace N view label)
     (M : (i : ℕ) → ModeStep (view i) (modes i) (label i) (modes (suc i))) where

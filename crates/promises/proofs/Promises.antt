@@ -1,8 +1,8 @@
 -- The promises about the manager as a whole: demand 3, well-formed states, granting and naming, one holder that decides, no second wake-up, the old rule
 -- on one processor, sleepers that change no lock decision, nobody by the table, and write locks that stay, for tables of both versions, but the old rule
--- for version 1; what holds of version 2 alone; and finished runs as if one by one, for both. Their terms are in Terms.antt, for demand 3 in
--- theory/specs/Words.antt, for write locks in theory/specs/WriteLocks.antt and for finished runs in theory/specs/Arrows.antt; the files between Terms.antt
--- and this one prove them. The sentences in quotes are document 01's, or where it says so 02's. Assumes nothing.
+-- for version 1; what holds of version 2 alone; and finished runs as if one by one, for both. Their terms are in specs/Terms.antt, for demand 3 in
+-- theory/specs/Words.antt, for write locks in theory/specs/WriteLocks.antt and for finished runs in theory/specs/Arrows.antt; the other files of proofs/
+-- prove them. The sentences in quotes are document 01's, or where it says so 02's. Assumes nothing.
 use Rattle.std.specs.Prelude.{◌≡◌, refl, ◌≢◌, ◌↔◌, ◌⊎◌, true, false, List, [], ◌∷◌, ℕ, zero, suc, ◌≤◌, eqb, get_or}
 use Rattle.std.proofs.Common.{sym, subst, ap, ◌∙◌, arith}
 use Rattle.std.proofs.lemmas.Bool.{eqb-false, not-true}
@@ -27,27 +27,30 @@ use Rattle.questions.specs.Questions.{ask_inherited_rank, ask_named_lock, ask_ce
 use Rattle.theory.specs.Words.{Ends, Demand3}
 use Rattle.theory.specs.WriteLocks.{HoldsWrite, WriteLocksStay, WritesCertified}
 use Rattle.theory.specs.Arrows.{OneByOne, OneOrder, NeverTogether, GrantsFirst}
-use Rattle.theory.specs.Keeps.{none_passes}
-use Rattle.theory.specs.WritesStay.{write_kept}
-use Rattle.theory.specs.Lists.{state_at, label_at, demand3_of, writes_stay_of, writes_shown_of, writes_certified_of, in_order_of}
-use Rattle.theory.specs.RunOrder.{InOrder}
+use Rattle.theory.proofs.Keeps.{none_passes}
+use Rattle.theory.proofs.WritesStay.{write_kept}
+use Rattle.theory.specs.Lists.{state_at, label_at}
+use Rattle.theory.proofs.Lists.{demand3_of, writes_stay_of, writes_shown_of, writes_certified_of}
 use Rattle.promises.specs.Terms.{Event, outcome_of, next, label, named, Reached, fresh, after}
 use Rattle.promises.specs.Terms.{MoreUrgentThanLocksOf, FirstOfLocks, old_request, NoSleeperAbove, AboveWriters, CeilingIs}
-use Rattle.promises.specs.TableStates.{read_sized, read_version}
+use Rattle.promises.proofs.TableStates.{read_sized, read_version}
 use Rattle.promises.specs.View.{view}
-use Rattle.promises.specs.LockModes.{modes, write_mode, mode_write, certify_mode, mode_certify}
-use Rattle.promises.specs.Steps.{step_goes, done_kind}
-use Rattle.promises.specs.ReachedStates.{kept, fresh_facts, fresh_view, manages, moves_modes}
-use Rattle.promises.specs.Waking.{blocked_not_woken, nobody_left}
-use Rattle.promises.specs.Requests.{granted_exactly, waits_for}
-use Rattle.promises.specs.OldRule.{one_request}
-use Rattle.promises.specs.Sleeping.{answer_same, named_lock_same, inherited_rank_same}
-use Rattle.promises.specs.Example.{sleep_table, sleep_answers, sleep_events, slept}
-use Rattle.promises.specs.LocksApart.{manages_version, moves_version, apart_version}
-use Rattle.promises.specs.HeldUp.{answer_certified, named_certified}
-use Rattle.promises.specs.OneHolder.{granted_to_holder, granted_by_one, waits_one, waits_first, names_carried, carried_goes_on}
+use Rattle.promises.specs.LockModes.{modes}
+use Rattle.promises.proofs.LockModes.{write_mode, mode_write, certify_mode, mode_certify}
+use Rattle.promises.proofs.Steps.{step_goes, done_kind}
+use Rattle.promises.proofs.ReachedStates.{kept, fresh_facts, fresh_view, manages, moves_modes}
+use Rattle.promises.proofs.Waking.{blocked_not_woken, nobody_left}
+use Rattle.promises.proofs.Requests.{granted_exactly, waits_for}
+use Rattle.promises.proofs.OldRule.{one_request}
+use Rattle.promises.proofs.Sleeping.{answer_same, named_lock_same, inherited_rank_same}
+use Rattle.promises.specs.Example.{sleep_table, sleep_events, slept}
+use Rattle.promises.proofs.Example.{sleep_answers}
+use Rattle.promises.proofs.LocksApart.{manages_version, moves_version, apart_version}
+use Rattle.promises.proofs.FinishedRuns.{in_order}
+use Rattle.promises.proofs.HeldUp.{answer_certified, named_certified}
+use Rattle.promises.proofs.OneHolder.{granted_to_holder, granted_by_one, waits_one, waits_first, names_carried, carried_goes_on}
 use Rattle.promises.specs.NobodyAs65.{ceiling65, old_request65, step65, ask_inherited_rank65, ask_named_lock65, ask_ceilings65, ask_running65}
-use Rattle.promises.specs.Nobody.{old_request_same, step_same, ask_inherited_same, ask_named_same, ask_running_same, ask_ceilings_are, ask_ceilings_64}
+use Rattle.promises.proofs.Nobody.{old_request_same, step_same, ask_inherited_same, ask_named_same, ask_running_same, ask_ceilings_are, ask_ceilings_64}
 
 -- ---- DEMAND 3
 -- "It is a single claim about the whole list of events and not one for each event. The list starts from a fresh state .. An event in it is
@@ -153,7 +156,7 @@ nobody_to_wake {t} r = nobody_left t (no_waiting_request_passes r)
 -- "Equality with it is claimed for one state, reached from a fresh one by any events, and one request of the job that
 -- the only processor runs: the same grant or wait, the same named lock." A request is of kind 2, 3 or 7, and not refused, the fourth answer.
 -- 02, CR 6: "The old rule's equality is for version 1 alone." 02, CR 8: "Answers equal the old rule's where no more urgent holder sleeps."
--- The condition is needed: in the state `slept`, which is reached, such a request is answered otherwise (`asleep_differs` in Example.antt).
+-- The condition is needed: in the state `slept`, which is reached, such a request is answered otherwise (`asleep_differs` in proofs/Example.antt).
 pub one_processor : {t : State} → Reached t → t.counts.version ≡ 1 → t.counts.processors ≡ 1
     → (e : Event) → is_request e.kind ≡ true → value (rank_reply (ask_running t 0)) 0 0 ≡ e.rank → NoSleeperAbove t e.rank
     → (paper (outcome_of t e).answer).number ≢ 4
@@ -181,7 +184,7 @@ module _ (s : State) (sleepers : ℕ) (well : well_formed s ≡ true) (well_too 
   sleeping_inherits_nothing = inherited_rank_same s sleepers (well_too ∙ sym well)
 
 -- ---- NOBODY IS ONE PAST THE LAST RANK
--- 02, CR 4, of any well-formed state, handed in or reached. The rule with 65 for nobody, which stood before, is in NobodyAs65.antt:
+-- 02, CR 4, of any well-formed state, handed in or reached. The rule with 65 for nobody, which stood before, is in specs/NobodyAs65.antt:
 pub nobody_was : ceiling65 0 ≡ 65
 nobody_was = first_empty most_jobs
 
@@ -268,25 +271,20 @@ module _ (s : State) (sized : Sized s) (well : well_formed s ≡ true) (second :
 -- to the other; following arrows never leads back; and ordering the runs that were granted a lock by their last grant agrees with every arrow."
 -- In words that are read off the events and their answers (theory/specs/Arrows.antt), with the conflicting locks of the table's version.
 module _ (s : State) (sized : Sized s) (start : Fresh s) (es : List Event) where
-  in_order : InOrder (label_at next label s es) s.counts.version
-  in_order =
-      let v : ℕ = s.counts.version in
-      in_order_of next label view (manages_version v) modes (moves_version v) (apart_version v) s (fresh_facts sized start, refl) (fresh_view sized start) es
-
   pub one_by_one : OneByOne (label_at next label s es) s.counts.version
-  one_by_one = in_order.one_by_one
+  one_by_one = (in_order s sized start es).one_by_one
 
   -- So there is one order of the finished runs such that of any two that conflict the earlier one released before the later one was granted.
   pub one_order : OneOrder (label_at next label s es) s.counts.version
-  one_order = in_order.one_order
+  one_order = (in_order s sized start es).one_order
 
   -- It is so because conflicting locks on one object are never held together, and no run is granted a lock once it has released one:
   -- two facts of any run, finished or not.
   pub never_together : NeverTogether (label_at next label s es) s.counts.version
-  never_together = in_order.never_together
+  never_together = (in_order s sized start es).never_together
 
   pub grants_first : GrantsFirst (label_at next label s es)
-  grants_first = in_order.grants_first
+  grants_first = (in_order s sized start es).grants_first
 
 -- The reader returns such a state for each table that it accepts, and its version is the table's.
 pub table_one_by_one : (b : List ℕ) → (read_table b).refusal ≡ 0 → (es : List Event)

@@ -22,7 +22,8 @@ use Rattle.state.specs.Weights.{write_ceiling_of, absolute_ceiling_of, weight}
 use Rattle.state.specs.WeightLaws.{read_own, write_writer, write_below_read, weight_small}
 use Rattle.weights.specs.Keys.{no_weight}
 use Rattle.theory.specs.Machine.{Passes, Took}
-use Rattle.promises.specs.Weights.{weight_if, lock_weight, lock_below}
+use Rattle.promises.specs.Weights.{weight_if, lock_weight}
+use Rattle.promises.proofs.Weights.{lock_below}
 use Rattle.promises.specs.View.{as_number}
 
 -- ---- of a job of which two states over one table say the same

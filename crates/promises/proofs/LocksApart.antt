@@ -14,15 +14,18 @@ use Rattle.state.specs.WeightLaws.{read_writer, write_writer, write_any}
 use Rattle.weights.specs.Keys.{no_weight}
 use Rattle.theory.specs.Words.{Label}
 use Rattle.theory.specs.Modes.{Gives}
-use Rattle.theory.specs.Keeps.{wakens_waited}
+use Rattle.theory.proofs.Keeps.{wakens_waited}
 use Rattle.theory.specs.Lists.{Manages, MovesModes, KeepsLocksApart}
 use Rattle.promises.specs.Terms.{next, label}
-use Rattle.promises.specs.Weights.{lock_weight, lock_below}
-use Rattle.promises.specs.View.{view, requested_waits}
-use Rattle.promises.specs.LockModes.{mode_if, held_mode, modes, mode_certify, unwritten_mode}
-use Rattle.promises.specs.Steps.{Goes, step_goes}
-use Rattle.promises.specs.ReachedStates.{manages, moves_modes}
-use Rattle.promises.specs.Finishing.{step_counts, finish_modes}
+use Rattle.promises.specs.Weights.{lock_weight}
+use Rattle.promises.proofs.Weights.{lock_below}
+use Rattle.promises.specs.View.{view}
+use Rattle.promises.proofs.View.{requested_waits}
+use Rattle.promises.specs.LockModes.{mode_if, held_mode, modes}
+use Rattle.promises.proofs.LockModes.{mode_certify, unwritten_mode}
+use Rattle.promises.proofs.Steps.{Goes, step_goes}
+use Rattle.promises.proofs.ReachedStates.{manages, moves_modes}
+use Rattle.promises.proofs.Finishing.{step_counts, finish_modes}
 
 -- ---- what an event gives was asked for as the refusals allow: by the request that it grants, or by the one that waited
 

@@ -19,11 +19,12 @@ use Rattle.refusals.specs.Refusals.{is_request}
 use Rattle.manager.specs.Step.{step}
 use Rattle.questions.specs.Answers.{named_reply}
 use Rattle.questions.specs.Questions.{ask_named_lock}
-use Rattle.theory.specs.Key.{key_named}
+use Rattle.theory.proofs.KeyLaws.{key_named}
 use Rattle.promises.specs.Terms.{AboveWriters}
-use Rattle.promises.specs.Weights.{lock_weight, lock_held, lock_small, lowest}
-use Rattle.promises.specs.View.{waiting_below, asks_named, named_lowest}
-use Rattle.promises.specs.Requests.{rank_fits, waits_stopped}
+use Rattle.promises.specs.Weights.{lock_weight}
+use Rattle.promises.proofs.Weights.{lock_held, lock_small, lowest}
+use Rattle.promises.proofs.View.{waiting_below, asks_named, named_lowest}
+use Rattle.promises.proofs.Requests.{rank_fits, waits_stopped}
 
 module _ (s : State) (F : Facts s) (second : s.counts.version ≡ 2) (j h o : ℕ) (above : AboveWriters s j o) (held : holds s write h o ≡ true) where
   lets_pass : is_certified s o ≡ false → j < weight s write h o

@@ -30,14 +30,17 @@ use Rattle.events.specs.Events.{outcome, request_meeting, request, woken, wake, 
 use Rattle.manager.specs.Step.{step}
 use Rattle.theory.specs.Words.{Label, Ends}
 use Rattle.theory.specs.Machine.{MayRequest, Step}
-use Rattle.theory.specs.Build.{labelled, ends_run, nothing_step, refused_step, start_step, grant_step, wait_step, unlock_step, end_step}
-use Rattle.theory.specs.Modes.{ModeStep, nothing_modes, wait_modes, grant_modes, release_modes}
+use Rattle.theory.specs.Build.{labelled}
+use Rattle.theory.proofs.Build.{ends_run, nothing_step, refused_step, start_step, grant_step, wait_step, unlock_step, end_step}
+use Rattle.theory.specs.Modes.{ModeStep}
+use Rattle.theory.proofs.Modes.{nothing_modes, wait_modes, grant_modes, release_modes}
 use Rattle.promises.specs.Terms.{happened, label_of}
-use Rattle.promises.specs.Weights.{passes_all, fails_blocked}
+use Rattle.promises.proofs.Weights.{passes_all, fails_blocked}
 use Rattle.promises.specs.View.{as_number, view}
-use Rattle.promises.specs.Frames.{weight_frame, requested_frame, active_frame, unlocked_frame, no_weight_lem, took_grant}
-use Rattle.promises.specs.LockModes.{modes, read_mode, mode_frame, asked_frame, given_grant}
-use Rattle.promises.specs.Waking.{woken_wakes, woken_modes}
+use Rattle.promises.proofs.Frames.{weight_frame, requested_frame, active_frame, unlocked_frame, no_weight_lem, took_grant}
+use Rattle.promises.specs.LockModes.{modes}
+use Rattle.promises.proofs.LockModes.{read_mode, mode_frame, asked_frame, given_grant}
+use Rattle.promises.proofs.Waking.{woken_wakes, woken_modes}
 
 -- what is shown of an event with this label that goes from s to t
 pub record Goes (s : State) (l : Label) (t : State) : Type 0 where

@@ -22,10 +22,10 @@ use Rattle.events.specs.Answers.{paper}
 use Rattle.refusals.specs.Refusals.{is_request}
 use Rattle.manager.specs.Step.{step}
 use Rattle.promises.specs.Terms.{named, Reached, MoreUrgentThanLocksOf, FirstOfLocks}
-use Rattle.promises.specs.View.{names_lowest}
-use Rattle.promises.specs.ReachedStates.{kept}
-use Rattle.promises.specs.Waking.{blocked_not_woken}
-use Rattle.promises.specs.Requests.{rank_fits, granted_exactly, waits_stopped}
+use Rattle.promises.proofs.View.{names_lowest}
+use Rattle.promises.proofs.ReachedStates.{kept}
+use Rattle.promises.proofs.Waking.{blocked_not_woken}
+use Rattle.promises.proofs.Requests.{rank_fits, granted_exactly, waits_stopped}
 
 -- a lock that comes first weighs no more
 first_weight : {w r o v q p : ℕ} → ComesFirst w r o v q p → w ≤ v
