@@ -19,22 +19,22 @@ whole c = let a = c.args in
 
 pub returns-then-not-well : goal.returns-then-not-well
 returns-then-not-well c =
-    let r = refused_by_8 (whole c.before.before.before.before) c.args.seed c.args.count c.args.buf.now (sym c.fits2.ensures ∙ c.if-not-well.true) in
+    let r = refused_by_8 (whole c.before.before.before.before) c.args.seed c.args.count c.args.buf.now (sym c.fits-well.ensures ∙ c.if-not-well.true) in
     (sym r.0, sym r.1)
 
 pub returns-then-buf-count : goal.returns-then-buf-count
 returns-then-buf-count c =
-    let r = refused_by_23 (whole c.before.before.before.before.before) c.args.seed c.args.count c.args.buf.now ((sym c.fits2.ensures ∙ c.if-not-well.false)) (omega (arith, c.if-buf-count.true)) in
+    let r = refused_by_23 (whole c.before.before.before.before.before) c.args.seed c.args.count c.args.buf.now ((sym c.fits-well.ensures ∙ c.if-not-well.false)) (omega (arith, c.if-buf-count.true)) in
     (sym r.0, sym r.1)
 
 pub lay_load-next-requires : goal.lay_load-next-requires
 lay_load-next-requires c =
-    (counts_within_lem c.args.counts (clauses (whole c.before.before.before.before.before) ((sym c.fits2.ensures ∙ c.if-not-well.false))).counts, omega (arith, c.if-buf-count.false))
+    (counts_within_lem c.args.counts (clauses (whole c.before.before.before.before.before) ((sym c.fits-well.ensures ∙ c.if-not-well.false))).counts, omega (arith, c.if-buf-count.false))
 
 pub returns : goal.returns
 returns c =
     let laid = c.lay_load-next.ensures in
     let r =
-    made (whole c.before.before.before.before.before.before.before.before.before) c.args.seed c.args.count c.args.buf.now ((sym c.fits2.ensures ∙ c.if-not-well.false))
+    made (whole c.before.before.before.before.before.before.before.before.before) c.args.seed c.args.count c.args.buf.now ((sym c.fits-well.ensures ∙ c.if-not-well.false))
     (omega (arith, c.if-buf-count.false)) in
     (ap {B = Made} (λ (next : ℕ). record { refusal = 0; seed = next }) laid.0 ∙ sym r.0, laid.1 ∙ sym r.1)

@@ -29,15 +29,15 @@ module _ (c : Else-not-contains) where
   is-active = sym c.contains.ensures ∙ c.if-not-contains.false
 
   processor-small : at start.args.processor_of.now (rank + 1) < most_processors
-  processor-small = let within = start.pre.0 in omega (arith, start.pre.1 (rank + 1) (omega arith) (omega arith))
+  processor-small = let within = start.requires.0 in omega (arith, start.requires.1 (rank + 1) (omega arith) (omega arith))
 
   long : length (line_by start.args.counts.jobs start.args.named.now start.args.running.now start.args.processor_of.now start.args.sleeping start.args.request.now (rank + 1)) ≡ 21
-  long = line_by_length _ _ _ _ start.args.active _ _ (rank + 1) (let within = start.pre.0 in omega arith) processor-small
+  long = line_by_length _ _ _ _ start.args.active _ _ (rank + 1) (let within = start.requires.0 in omega arith) processor-small
 
   room : c.loop-rank.end + 21 ≤ length start.args.buf.now
   room =
-      let within = start.pre.0 in
-      omega (arith, c.loop-rank.invariant.2, room_for_line _ _ _ _ _ _ _ rank (length start.args.buf.now) (omega arith) (omega arith) processor-small is-active start.pre.2)
+      let within = start.requires.0 in
+      omega (arith, c.loop-rank.invariant.2, room_for_line _ _ _ _ _ _ _ rank (length start.args.buf.now) (omega arith) (omega arith) processor-small is-active start.requires.2)
 
 pub loop-rank-init : goal.loop-rank-init
 unfolding lines_by joined
