@@ -16,7 +16,8 @@ use Rattle.state.specs.declared.Counts.{Counts}
 use Rattle.state.specs.declared.State.{State}
 use Rattle.state.specs.State.{most_jobs, most_objects, most_urgent_holder, certify, requested_mode, requested_object, grant_readers, grant_writers, release_readers, release_sets, drop_marks, activate, await, grant, release, end_run}
 use Rattle.state.specs.Weights.{weight}
-use Rattle.state.specs.Holders.{HolderFacts, held_state, held_of, held_facts, granted_holder, release_holders, end_run_holders, release_holder, end_run_holder}
+use Rattle.state.specs.Holders.{HolderFacts, held_state, held_of, held_facts, granted_holder, release_holders, end_run_holders, end_run_holder}
+use Rattle.state.proofs.Releasing.{release_holder}
 use Rattle.weights.specs.Keys.{Weigh, key_weight, key_holder, key_object, others_key, object_key, lowest_key_by, lowest_key}
 use Rattle.one_holder.specs.OneHolder.{deciding_key, Decides}
 use Rattle.one_holder.specs.OneHolderLaws.{deciding}

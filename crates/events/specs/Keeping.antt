@@ -10,7 +10,8 @@ use Rattle.state.specs.declared.State.{State}
 use Rattle.state.specs.State.{read, write, certify, is_active, is_sleeping, requested_mode, requested_object, await, grant, release, end_run}
 use Rattle.state.specs.Facts.{RequestFacts, Facts}
 use Rattle.state.specs.WellFormedFacts.{sleeper_free}
-use Rattle.state.specs.Keeping.{activate_keeps, await_keeps, fall_asleep_keeps, awaken_keeps, release_keeps, end_keeps, grant_keeps}
+use Rattle.state.specs.Keeping.{activate_keeps, await_keeps, fall_asleep_keeps, awaken_keeps, end_keeps, grant_keeps}
+use Rattle.state.proofs.Releasing.{release_keeps}
 use Rattle.rule.specs.Granting.{passes, wakes, wakeable}
 use Rattle.state.specs.Holders.{holder_facts}
 use Rattle.rule.specs.Conflicts.{above_others, no_conflict}

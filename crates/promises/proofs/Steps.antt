@@ -16,8 +16,9 @@ use Rattle.state.specs.State.{most_objects, read, write, certify, holds, holds_a
 use Rattle.state.specs.State.{with_sleepers, activate, await, grant, release, fall_asleep, awaken, end_run}
 use Rattle.state.specs.Facts.{RequestFacts, Facts}
 use Rattle.state.specs.Changes.{activate_same, await_same, object_fits, await_request, grant_request, grant_same, grant_locks}
-use Rattle.state.specs.Changes.{release_none, release_same, release_locks, end_request, end_same, end_none, end_locks}
-use Rattle.state.specs.Keeping.{release_keeps, end_keeps}
+use Rattle.state.specs.Changes.{end_request, end_same, end_none, end_locks}
+use Rattle.state.specs.Keeping.{end_keeps}
+use Rattle.state.proofs.Releasing.{release_none, release_same, release_locks, release_keeps}
 use Rattle.weights.specs.Keys.{no_weight, key_holder, key_object, lowest_key}
 use Rattle.rule.specs.Granting.{passes, reason, wakeable}
 use Rattle.rule.specs.Conflicts.{no_conflict}

@@ -42,7 +42,7 @@ pub one_writer : {s : State} → Facts s → (o a b : ℕ) → In (holders s wri
 one_writer F o a b i = ((F.locks o).alone a b i).0
 
 -- where the other jobs' locks stay, and those on other objects, each lock stays but r's on o
-other_locks : (s t : State) (r o : ℕ) → ((x : ℕ) → r ≢ x → Same s t x) → ((m p : ℕ) → o ≢ p → holders t m p ≡ holders s m p)
+pub other_locks : (s t : State) (r o : ℕ) → ((x : ℕ) → r ≢ x → Same s t x) → ((m p : ℕ) → o ≢ p → holders t m p ≡ holders s m p)
     → ((p : ℕ) → o ≢ p → is_certified t p ≡ is_certified s p) → (x p : ℕ) → SameLocks s t x p ⊎ ((r ≡ x) × (o ≡ p))
 other_locks s t r o jobs objects marks x p = elim (ℕ_discrete r x) [
   | yes e ↦ elim (ℕ_discrete o p) [
@@ -128,56 +128,6 @@ module _ (s : State) (r : ℕ) where
 -- other sleepers say the same of whoever is asleep in both or in neither
 pub sleepers_same : (s : State) (z x : ℕ) → member z x ≡ is_sleeping s x → Same s (with_sleepers s z) x
 sleepers_same s z x e = record { active = refl; unlocked = refl; sleeping = e; request = refl; locks = λ m o. refl; certified = λ o h. refl }
-
--- ---- the release of one read lock
-
-module _ (s : State) (r : ℕ) (Z : Sized s) (o : ℕ) (low : 1 ≤ o) (high : o ≤ most_objects) where
-  release_readers_lem : holders (release s r o) read o ≡ without (holders s read o) r
-  unfolding release
-  release_readers_lem = at-put_same s.readers o (without (at s.readers o) r) low (omega (arith, Z.readers))
-
-  -- the writers of every object stay
-  release_writers : (p : ℕ) → holders (release s r o) write p ≡ holders s write p
-  unfolding release
-  release_writers p = refl
-
-  pub release_others : (m p : ℕ) → o ≢ p → holders (release s r o) m p ≡ holders s m p
-  unfolding release
-  release_others m p d =
-      either_mode (λ f. f (at (release s r o).readers p) (at (release s r o).writers p) ≡ f (at s.readers p) (at s.writers p))
-      (at-put_other s.readers o (without (at s.readers o) r) p d) (release_writers p) m
-
-  -- what holds of the readers without r and of the writers of o holds of its holders in either mode
-  pub release_either : (P : ℕ → ℕ → Type 0) → P (without (holders s read o) r) (holders s read o) → P (holders s write o) (holders s write o)
-      → (m : ℕ) → P (holders (release s r o) m o) (holders s m o)
-  unfolding release
-  release_either P reading writing =
-      either_mode (λ f. P (f (at (release s r o).readers o) (at (release s r o).writers o)) (f (at s.readers o) (at s.writers o)))
-      (subst (λ v. P v (holders s read o)) (sym release_readers_lem) reading) (subst (λ v. P v (holders s write o)) (sym (release_writers o)) writing)
-
-  -- r, which has no write lock there, holds nothing there
-  pub release_none : holds s write r o ≡ false → (m : ℕ) → holds (release s r o) m r o ≡ false
-  release_none unwritten = release_either (λ v before. member v r ≡ false) (member-without_same (holders s read o) r) unwritten
-
-  pub release_same : (x : ℕ) → r ≢ x → Same s (release s r o) x
-  unfolding release
-  release_same x d = record {
-    active = refl;
-    unlocked = member-with_other s.unlocked r x d;
-    sleeping = refl;
-    request = refl;
-    locks = λ m p. elim (ℕ_discrete o p) [
-      | yes e ↦ subst (λ q. holds (release s r o) m x q ≡ holds s m x q) e
-          (release_either (λ v before. member v x ≡ member before x) (member-without_other (holders s read o) r x d) refl m)
-      | no n ↦ ap (λ v. member v x) (release_others m p n)
-    ];
-    certified = λ p h. refl;
-  }
-
-  -- each lock stays but that of r on o
-  pub release_locks : (x p : ℕ) → SameLocks s (release s r o) x p ⊎ ((r ≡ x) × (o ≡ p))
-  unfolding release
-  release_locks = other_locks s (release s r o) r o release_same release_others (λ p d. refl)
 
 -- ---- the end of a run
 

@@ -298,44 +298,6 @@ module _ (s : State) (H : HolderFacts s) (r : ℕ) where
 -- ---- the next most urgent holder
 
 module _ (s : State) (H : HolderFacts s) (r : ℕ) where
-  -- the carried rank stays where another job's lock is given up
-  pub release_holder : (o : ℕ) → 1 ≤ o → o ≤ most_objects → s.holder ≢ r → most_urgent_holder (release_readers r o s.readers) s.writers ≡ s.holder
-  unfolding release
-  release_holder o low high other = go (ℕ_discrete s.holder 0)
-    where
-      t : State
-      t = release s r o
-
-      T : HolderFacts t
-      T = release_holders s H r o low high
-
-      kept : (m p : ℕ) → In (holders s m p) s.holder → In (holders t m p) s.holder
-      kept m p =
-          either_mode (λ f. In (f (at s.readers p) (at s.writers p)) s.holder
-          → In (f (at (release_readers r o s.readers) p) (at s.writers p)) s.holder) still (λ i. i) m
-        where
-          still : In (at s.readers p) s.holder → In (at (release_readers r o s.readers) p) s.holder
-          still i = elim (ℕ_discrete o p) [
-            | yes e ↦ subst (λ q. In (at s.readers q) s.holder → In (at (release_readers r o s.readers) q) s.holder) e
-                (λ j. ap (λ v. member v s.holder) (at-put_same s.readers o (without (at s.readers o) r) low (omega (arith, H.readers)))
-                ∙ (member-without_other (at s.readers o) r s.holder (λ q. other (sym q)) ∙ j)) i
-            | no d ↦ ap (λ v. member v s.holder) (at-put_other s.readers o (without (at s.readers o) r) p d) ∙ i
-          ]
-
-      back : (m p x : ℕ) → In (holders t m p) x → (1 ≤ s.holder) × (s.holder ≤ x)
-      back m p x i = carried_first s H m x p (release_fewer s H r o low high m x p i)
-
-      go : Dec (s.holder ≡ 0) → most_urgent_holder (release_readers r o s.readers) s.writers ≡ s.holder
-      go (yes e) = elim (ℕ_discrete t.holder 0) [
-        | yes z ↦ z ∙ sym e
-        | no d ↦ (let w = carried_holds t T d in absurd (omega (arith, back w.0 w.1 t.holder w.2)))
-      ]
-      go (no d) =
-          let w = carried_holds s H d in
-          let first = carried_first t T w.0 s.holder w.1 (kept w.0 w.1 w.2) in
-          let v = carried_holds t T (λ e. omega (arith, first.0)) in
-          le_antisymm first.1 (back v.0 v.1 t.holder v.2).1
-
   -- at the end of a run it is the most urgent of the ranks that are left in the sets
   pub end_run_holder : most_urgent (union (unions most_objects (λ o. without (at s.readers o) r)) (unions most_objects (λ o. without (at s.writers o) r)))
       ≡ most_urgent_holder (release_sets r s.readers) (release_sets r s.writers)

@@ -26,7 +26,7 @@ use Rattle.state.specs.WellFormedFacts.{held_object}
 use Rattle.state.specs.Changes.{with_in, without_in, with_grows}
 use Rattle.state.specs.Changes.{over_table, Same, object_fits, readers_after, writers_after, readers_after_lt, writers_after_lt, activate_same, sleepers_same}
 use Rattle.state.specs.Changes.{await_same, await_request, grant_request, end_request, end_holders, end_mark_kept, end_mark_gone, end_same}
-use Rattle.state.specs.Changes.{release_either, release_others, release_same, grant_readers_lem, grant_writers_lem, grant_others, grant_mark_kept, grant_mark_other, grant_same}
+use Rattle.state.specs.Changes.{grant_readers_lem, grant_writers_lem, grant_others, grant_mark_kept, grant_mark_other, grant_same}
 
 or_mono : (a : Bool) {b c : Bool} → (b ≡ true → c ≡ true) → a || b ≡ true → a || c ≡ true
 or_mono true f e = refl
@@ -35,7 +35,7 @@ or_mono false f e = f e
 -- ---- the locks of t over the table of s
 
 module _ (s t : State) where
-  fewer_locks : (o : ℕ) → ((m : ℕ) → holders t m o < 2 ^ s.counts.jobs)
+  pub fewer_locks : (o : ℕ) → ((m : ℕ) → holders t m o < 2 ^ s.counts.jobs)
       → ((m x : ℕ) → In (holders t m o) x → In (holders s m o) x × (In s.active x → In t.active x))
       → (is_certified t o ≡ true → (is_certified s o ≡ true) × ((x : ℕ) × In (holders t write o) x))
       → LockFacts s o → LockFacts (over_table s t) o
@@ -89,7 +89,7 @@ module _ (s t : State) where
         (same_request (requested_mode s x) x (requested_object s x) S (F.requests x (λ z. d (S.request ∙ z))))
 
     -- a change of job r alone
-    keep : (r : ℕ) → length t.readers ≡ most_objects → length t.writers ≡ most_objects → length t.certified ≡ mark_words
+    pub keep : (r : ℕ) → length t.readers ≡ most_objects → length t.writers ≡ most_objects → length t.certified ≡ mark_words
         → length t.request ≡ most_jobs → ((o : ℕ) → LockFacts (over_table s t) o) → t.active < 2 ^ s.counts.jobs → t.unlocked < 2 ^ s.counts.jobs
         → ((x : ℕ) → In t.unlocked x → In t.active x) → t.sleeping < 2 ^ s.counts.jobs → ((x : ℕ) → In t.sleeping x → In t.active x)
         → (request_of t r ≢ 0 → RequestFacts (over_table s t) (requested_mode t r) r (requested_object t r))
@@ -133,7 +133,7 @@ module _ (s : State) (F : Facts s) (r : ℕ) (low : 1 ≤ r) (high : r ≤ s.cou
   rank_fits = omega (arith, F.counts.jobs)
 
   -- a mark that stays, on writers that stay
-  kept_mark : (o : ℕ) → is_certified s o ≡ true → (is_certified s o ≡ true) × ((x : ℕ) × In (holders s write o) x)
+  pub kept_mark : (o : ℕ) → is_certified s o ≡ true → (is_certified s o ≡ true) × ((x : ℕ) × In (holders s write o) x)
   kept_mark o e = (e, ((F.locks o).certified e).1)
 
   pub activate_keeps : is_active s r ≡ false → Facts (activate s r)
@@ -198,30 +198,6 @@ module _ (s : State) (F : Facts s) (r : ℕ) (low : 1 ≤ r) (high : r ≤ s.cou
   awaken_keeps free =
       sleepers_keep (without s.sleeping r) (without-lt s.counts.jobs s.sleeping r F.sleepers_jobs)
       (λ x i. F.sleepers x (without_in s.sleeping r x i).0) free (member-without_other s.sleeping r)
-
-  -- a set of holders that is a part of what it was
-  abbrev Part : ℕ → ℕ → Type 0
-  Part v before = (v < 2 ^ s.counts.jobs) × ((x : ℕ) → In v x → In before x)
-
-  pub release_keeps : (o : ℕ) → 1 ≤ o → o ≤ most_objects → is_active s r ≡ true → request_of s r ≡ 0 → Facts (release s r o)
-  unfolding release
-  release_keeps o a b active free =
-      keep s (release s r o) F r (length-put s.readers o (without (holders s read o) r) ∙ F.sized.readers) F.sized.writers
-      F.sized.certified F.sized.request
-      (λ p. fewer_locks s (release s r o) p (λ m. (part p m).0) (λ m x i. ((part p m).1 x i, λ j. j)) (kept_mark p) (F.locks p))
-      F.active_jobs (with-lt s.counts.jobs s.unlocked r F.marks_jobs high)
-      (λ x i. elim (with_in s.unlocked r x i) [ inl e ↦ subst (λ y. In s.active y) e active | inr j ↦ F.marks x j ])
-      F.sleepers_jobs F.sleepers (λ d. absurd (d free)) (release_same s r Z o a b) refl
-      (release_holders s (holder_facts s F) r o a b).order
-    where
-      part : (p m : ℕ) → Part (holders (release s r o) m p) (holders s m p)
-      part p m = elim (ℕ_discrete o p) [
-        | yes e ↦ subst (λ q. Part (holders (release s r o) m q) (holders s m q)) e
-            (release_either s r Z o a b Part
-            (without-lt s.counts.jobs (holders s read o) r ((F.locks o).jobs read), λ x i. (without_in (holders s read o) r x i).0)
-            ((F.locks o).jobs write, λ x i. i) m)
-        | no d ↦ subst (λ v. Part v (holders s m p)) (sym (release_others s r Z o a b m p d)) ((F.locks p).jobs m, λ x i. i)
-      ]
 
   pub end_keeps : Facts (end_run s r)
   unfolding end_run

@@ -1,7 +1,7 @@
 -- `state::none_waits` meets its contract. The loop's invariant: the joined requests are 0 if and only if the first k are; a turn joins one more.
 -- It ends because what is left of the count falls.
 -- Assumes nothing.
-use Prim.Native.Nat.{ℕ, suc, ◌+◌, ◌-◌, ◌≤◌}
+use Prim.Native.Nat.{ℕ, suc, ◌+◌}
 use mathlib.Core.Path.{◌≡◌, refl, sym, ap, ap₂, ◌∙◌}
 use mathlib.Core.Bool.{◌&&◌}
 use native.Mathlib.Omega.{arith}
@@ -10,7 +10,6 @@ use lib.ListN.{get_or}
 use Rattle.basics.specs.Arrays.{at}
 use Rattle.basics.specs.Loops.{every, every_more}
 use Rattle.ranks.specs.UnionLaws.{empty_union}
-use borrow.Author.Rules.{rules}
 use Rattle.state.proofs.parts.none_waits.Goals as goal
 
 pub loop-k-init : goal.loop-k-init

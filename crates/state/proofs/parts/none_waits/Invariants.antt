@@ -1,16 +1,11 @@
 -- `state::none_waits` meets its contract. The loop's invariant: the joined requests are 0 if and only if the first k are; a turn joins one more.
 -- It ends because what is left of the count falls.
 -- Assumes nothing.
-use Prim.Native.Nat.{ℕ, suc, ◌+◌, ◌-◌, ◌≤◌}
-use mathlib.Core.Path.{◌≡◌, refl, sym, ap, ap₂, ◌∙◌}
-use mathlib.Core.Bool.{◌&&◌}
-use native.Mathlib.Omega.{arith}
+use Prim.Native.Nat.{◌+◌, ◌-◌, ◌≤◌}
+use mathlib.Core.Path.{◌≡◌}
 use lib.Dec.{eqb}
-use lib.ListN.{get_or}
 use Rattle.basics.specs.Arrays.{at}
-use Rattle.basics.specs.Loops.{every, every_more}
-use Rattle.ranks.specs.UnionLaws.{empty_union}
-use borrow.Author.Rules.{rules}
+use Rattle.basics.specs.Loops.{every}
 use Rattle.state.proofs.parts.none_waits.Given as goal
 
 abbrev pub invariant-loop-k : goal.invariant-loop-k

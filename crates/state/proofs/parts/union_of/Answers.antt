@@ -1,14 +1,13 @@
 -- `state::union_of` meets its contract. The loop's invariant: the union is that of the first k sets; a turn joins one more.
 -- It ends because what is left of the count falls.
 -- Assumes nothing.
-use Prim.Native.Nat.{ℕ, ◌+◌, ◌-◌, ◌≤◌}
-use mathlib.Core.Path.{◌≡◌, refl, sym, ap, ap₂, ◌∙◌}
+use Prim.Native.Nat.{◌+◌}
+use mathlib.Core.Path.{refl, sym, ap, ap₂, ◌∙◌}
 use native.Mathlib.Nat.{add-suc}
 use native.Mathlib.Omega.{arith}
 use Rattle.basics.specs.Arrays.{at}
 use Rattle.ranks.specs.Ranks.{union, unions}
 use Rattle.ranks.specs.UnionLaws.{unions_next}
-use borrow.Author.Rules.{rules}
 use Rattle.state.proofs.parts.union_of.Goals as goal
 
 pub loop-k-init : goal.loop-k-init

@@ -1,0 +1,2 @@
+-- What is shown of a release.
+pub mod Releasing
