@@ -11,34 +11,9 @@ use Rattle.table_writer.specs.Writing.{entries_bytes}
 use Rattle.table_writer.specs.Laying.{table_of, laid}
 use Rattle.table_writer.specs.EntryLaws.{state_entries}
 use Rattle.table_writer.proofs.TableLaid.{table_laid}
-use Rattle.table_writer.proofs.lay.lay_table.Statement.{statement}
-use Rattle.table_writer.proofs.lay.lay_table.Tie as tie
+use Rattle.table_writer.proofs.lay.lay_table.Goals as goal
 
-cast-jobs : tie.Need-overflow-cast-jobs
-cast-jobs c = search rules
-
-add_at : tie.Need-overflow-add-at
-add_at c = search rules
-
-lay-header-requires : tie.Need-lay-header-requires
-lay-header-requires c κs = search rules
-
-lay-processors-requires : tie.Need-lay-processors-requires
-lay-processors-requires c κs = search rules
-
-lay-word-requires : tie.Need-lay-word-requires
-lay-word-requires c κs = search rules
-
-add-lay-entries : tie.Need-overflow-add-lay-entries
-add-lay-entries c = search rules
-
-lay-entries-requires : tie.Need-lay-entries-requires
-lay-entries-requires c κs = search rules
-
-same_length : tie.Need-same-length
-same_length c = search rules
-
-returns : tie.Need-returns
+pub returns : goal.returns
 unfolding table_of
 returns c =
     let word = c.before.before.before.before.before.before in
@@ -50,20 +25,6 @@ returns c =
     let entries = state_entries s in
     let count : 3 * args.count ≡ length (entries_bytes s) = start.requires.3 ∙ ap length (sym entries) in
     table_laid s args.count (omega (arith, start.requires.0, start.requires.2)) count args.buf.now
-    header.lay-header.new.0 processors.lay-processors.new.0 word.lay-word.new.0 c.before.before.lay-entries.new.0
+    header.lay-header.new.0 processors.lay-processors.new.0 word.lay-word.new.0 c.lay_entries.new.0
     header.lay-header.ensures processors.lay-processors.ensures word.lay-word.ensures
-    (c.before.before.lay-entries.ensures ∙ ap (laid word.lay-word.new.0 (8 + args.counts.jobs + 2)) (sym entries))
-
-pub lay-table-spec : {M : Type 1} → statement M
-lay-table-spec =
-    tie.close
-    (tie.spec
-    cast-jobs
-    add_at
-    lay-header-requires
-    lay-processors-requires
-    lay-word-requires
-    add-lay-entries
-    lay-entries-requires
-    same_length
-    returns)
+    (c.lay_entries.ensures ∙ ap (laid word.lay-word.new.0 (8 + args.counts.jobs + 2)) (sym entries))

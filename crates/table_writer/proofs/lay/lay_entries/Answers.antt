@@ -1,0 +1,40 @@
+-- `table_writer::lay::lay_entries` meets its contract. The loop's invariant: the entries of the ranks passed are laid from the index on, and `end`
+-- stands behind them. A turn lays the next rank's entries behind. The measure is how many ranks are left. Assumes nothing.
+use Prim.Native.Nat.{ℕ, ◌+◌, ◌-◌, ◌≤◌}
+use mathlib.Core.Path.{◌≡◌, refl, sym, ap, ◌∙◌}
+use native.Mathlib.Nat.{add-zero}
+use native.Mathlib.Omega.{arith}
+use borrow.Author.Rules.{rules}
+use lib.ListN.{length}
+use Rattle.basics.specs.Loops.{joined}
+use Rattle.table_writer.specs.Laying.{declared_modes, entries_of_rank, entries_of_ranks, laid}
+use Rattle.table_writer.specs.EntryLaws.{ranks_more, ranks_more_length, ranks_grow}
+use Rattle.table_writer.proofs.LaidLaws.{laid_none, laid_turn}
+use Rattle.table_writer.proofs.lay.lay_entries.Goals as goal
+
+pub loop-rank-init : goal.loop-rank-init
+unfolding entries_of_ranks joined
+loop-rank-init c = (omega arith, sym (add-zero _), sym (laid_none _ _), refl)
+
+pub lay_rank-end-requires : goal.lay_rank-end-requires
+lay_rank-end-requires c =
+    let start = c.before.before.before.before in
+    let modes = declared_modes start.args.reads.now start.args.writes.now in
+    let k = c.loop-rank.rank in
+    let long = ranks_more_length modes start.args.objects k in
+    let room = ranks_grow modes start.args.objects (k + 1) start.args.jobs (omega arith) in
+    (omega arith, omega arith, omega arith, omega arith)
+
+pub loop-rank-preserved : goal.loop-rank-preserved
+loop-rank-preserved c =
+    let start = c.before.before.before.before.before.before.before in
+    let objects = start.args.objects in
+    let modes = declared_modes start.args.reads.now start.args.writes.now in
+    let loop = c.loop-rank in
+    let k = loop.rank in
+    let room = ranks_grow modes objects (k + 1) start.args.jobs (omega arith) in
+    let turn =
+    laid_turn start.args.buf.now loop.buf c.lay_rank-end.new.0 start.args.at loop.end
+    (entries_of_ranks modes objects k) (entries_of_rank modes (k + 1) objects) (entries_of_ranks modes objects (k + 1))
+    loop.invariant.2 loop.invariant.1 (ranks_more modes objects k) (omega arith) c.lay_rank-end.ensures.1 in
+    (omega arith, c.lay_rank-end.ensures.0 ∙ turn.0, turn.1, turn.2)
