@@ -18,23 +18,21 @@ loop-rank-init c = (omega arith, sym (add-zero _), sym (laid_none _ _), refl)
 
 pub lay_rank-end-requires : goal.lay_rank-end-requires
 lay_rank-end-requires c =
-    let start = c.before.before.before.before in
-    let modes = declared_modes start.args.reads.now start.args.writes.now in
+    let modes = declared_modes c.args.reads.now c.args.writes.now in
     let k = c.loop-rank.rank in
-    let long = ranks_more_length modes start.args.objects k in
-    let room = ranks_grow modes start.args.objects (k + 1) start.args.jobs (omega arith) in
+    let long = ranks_more_length modes c.args.objects k in
+    let room = ranks_grow modes c.args.objects (k + 1) c.args.jobs (omega arith) in
     (omega arith, omega arith, omega arith, omega arith)
 
 pub loop-rank-preserved : goal.loop-rank-preserved
 loop-rank-preserved c =
-    let start = c.before.before.before.before.before.before.before in
-    let objects = start.args.objects in
-    let modes = declared_modes start.args.reads.now start.args.writes.now in
+    let objects = c.args.objects in
+    let modes = declared_modes c.args.reads.now c.args.writes.now in
     let loop = c.loop-rank in
     let k = loop.rank in
-    let room = ranks_grow modes objects (k + 1) start.args.jobs (omega arith) in
+    let room = ranks_grow modes objects (k + 1) c.args.jobs (omega arith) in
     let turn =
-    laid_turn start.args.buf.now loop.buf c.lay_rank-end.new.0 start.args.at loop.end
+    laid_turn c.args.buf.now loop.buf c.lay_rank-end.new.buf c.args.at loop.end
     (entries_of_ranks modes objects k) (entries_of_rank modes (k + 1) objects) (entries_of_ranks modes objects (k + 1))
     loop.invariant.2 loop.invariant.1 (ranks_more modes objects k) (omega arith) c.lay_rank-end.ensures.1 in
     (omega arith, c.lay_rank-end.ensures.0 ∙ turn.0, turn.1, turn.2)

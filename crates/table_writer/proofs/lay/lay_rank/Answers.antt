@@ -34,18 +34,17 @@ lay_entry-end-requires c =
 
 pub loop-object-preserved : goal.loop-object-preserved
 loop-object-preserved c =
-    let start = c.before.before.before.before.before.before.before.before.before.before.before.before.before in
-    let reads = start.args.reads.now in
-    let writes = start.args.writes.now in
-    let rank = start.args.rank in
+    let reads = c.args.reads.now in
+    let writes = c.args.writes.now in
+    let rank = c.args.rank in
     let loop = c.loop-object in
     let k = loop.object in
     let modes = declared_modes reads writes in
     let result = c.declared_mode.result in
     let m : result ≡ modes rank (k + 1) = c.declared_mode.ensures ∙ rw add-one in
-    let room = rank_grows modes rank (k + 1) start.args.objects (omega arith) in
+    let room = rank_grows modes rank (k + 1) c.args.objects (omega arith) in
     let turn =
-    laid_turn start.args.buf.now loop.buf c.lay_entry-end.new.0 start.args.at loop.end
+    laid_turn c.args.buf.now loop.buf c.lay_entry-end.new.buf c.args.at loop.end
     (entries_of_rank modes rank k) (entry_bytes rank (k + 1) result) (entries_of_rank modes rank (k + 1))
     loop.invariant.2 loop.invariant.1 (rank_more modes rank k ∙ ap (λ (n : ℕ). entries_of_rank modes rank k ++ entry_bytes rank (k + 1) n) (sym m)) (omega arith)
     c.lay_entry-end.ensures.1 in

@@ -16,15 +16,11 @@ use Rattle.table_writer.proofs.lay.lay_table.Goals as goal
 pub returns : goal.returns
 unfolding table_of
 returns c =
-    let word = c.before.before.before.before.before.before in
-    let processors = word.before.before.before.before in
-    let header = processors.before.before.before.before in
-    let start = header.before.before.before.before in
-    let args = start.args in
+    let args = c.args in
     let s = fresh_state args.counts args.processor_of.now args.reads.now args.writes.now in
     let entries = state_entries s in
-    let count : 3 * args.count ≡ length (entries_bytes s) = start.requires.3 ∙ ap length (sym entries) in
-    table_laid s args.count (omega (arith, start.requires.0, start.requires.2)) count args.buf.now
-    header.lay-header.new.0 processors.lay-processors.new.0 word.lay-word.new.0 c.lay_entries.new.0
-    header.lay-header.ensures processors.lay-processors.ensures word.lay-word.ensures
-    (c.lay_entries.ensures ∙ ap (laid word.lay-word.new.0 (8 + args.counts.jobs + 2)) (sym entries))
+    let count : 3 * args.count ≡ length (entries_bytes s) = c.requires.3 ∙ ap length (sym entries) in
+    table_laid s args.count (omega (arith, c.requires.0, c.requires.2)) count args.buf.now
+    c.lay_header.new.buf c.lay_processors.new.buf c.lay_word.new.buf c.lay_entries.new.buf
+    c.lay_header.ensures c.lay_processors.ensures c.lay_word.ensures
+    (c.lay_entries.ensures ∙ ap (laid c.lay_word.new.buf (8 + args.counts.jobs + 2)) (sym entries))
