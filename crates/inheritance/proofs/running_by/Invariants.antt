@@ -1,0 +1,21 @@
+-- `inheritance::running_by` meets its contract. The loop's invariant: `lowest` is the lowest key of the ready ranks passed. A turn takes one rank more, and the
+-- number of ranks left falls.
+-- Assumes nothing.
+use mathlib.Core.Path.{◌≡◌, refl, sym, ap, ap₂, ◌∙◌}
+use mathlib.Core.Bool.{Bool}
+use Prim.Native.Nat.{ℕ, ◌≤◌, ◌-◌, ◌+◌, ◌%◌, min}
+use native.Mathlib.Omega.{arith}
+use Rattle.basics.specs.Arrays.{at, at_next}
+use Rattle.basics.specs.Loops.{least, least_more}
+use Rattle.weights.specs.Keys.{no_key}
+use Rattle.inheritance.specs.Inheriting.{ready_by, ready_key_by, running_by}
+use borrow.Author.Rules.{rules}
+use Rattle.inheritance.proofs.running_by.Given as goal
+
+abbrev pub invariant-loop-rank : goal.invariant-loop-rank
+invariant-loop-rank l =
+    (l.rank ≤ l.jobs)
+    × (l.lowest ≡ least l.rank no_key (λ r. ready_key_by l.jobs l.named (ready_by (at l.processor_of r) l.processor l.awake (at l.request r) r) r))
+
+abbrev pub decreases-loop-rank : goal.decreases-loop-rank
+decreases-loop-rank l = l.jobs - l.rank

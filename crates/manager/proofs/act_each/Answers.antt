@@ -1,0 +1,21 @@
+-- `manager::act_each` meets its contract: as many events as both lists hold are answered from one test of the state.
+-- Assumes nothing.
+use Prim.Native.Nat.{ℕ, ◌*◌}
+use mathlib.Core.Path.{◌≡◌, sym, ap, ◌∙◌}
+use native.Mathlib.Omega.{arith}
+use lib.ListN.{length, take}
+use lib.Seq.{length-take-le}
+use Rattle.state.specs.declared.State.{State}
+use Rattle.state.specs.State.{state_of}
+use Rattle.manager.specs.EventList.{state_after}
+use Rattle.manager.proofs.AnsweringLaws.{front_stored}
+use borrow.Author.Rules.{rules}
+use Rattle.manager.proofs.act_each.Goals as goal
+
+pub returns-clause-answers : goal.returns-clause-answers
+returns-clause-answers c =
+    let a = c.args in
+    let s =
+    state_of a.counts a.processor_of.now a.may_read.now a.may_write.now
+    a.active.now a.unlocked.now a.sleeping.now a.holder.now a.readers.now a.writers.now a.certified.now a.request.now in
+    c.answer_each.ensures.answers ∙ front_stored s a.events.now a.answers.now c.smaller-count.result c.smaller-count.ensures

@@ -1,0 +1,21 @@
+-- `manager::answer_each` meets its contract. The loop's invariant is `Answered`: the answers to all events are those stored so far and then those to the
+-- bytes that are left, from the state that the parts are now; and whether that state is well formed is still known. A turn takes the three bytes of one
+-- event; fewer than three are no event. It ends because the bytes left fall. Assumes nothing.
+use Prim.Native.Nat.{◌-◌}
+use native.Mathlib.Omega.{arith}
+use lib.ListN.{length}
+use Rattle.state.specs.State.{state_of}
+use Rattle.manager.proofs.AnsweringLaws.{Answered, answered_none, answered_more, answered_all}
+use borrow.Author.Rules.{rules}
+use Rattle.manager.proofs.answer_each.Given as goal
+
+abbrev pub invariant-loop-at : goal.invariant-loop-at
+invariant-loop-at l =
+    Answered l.events l.well
+    (state_of l.counts l.processor_of l.may_read l.may_write l.initial.active l.initial.unlocked l.initial.sleeping l.initial.holder l.initial.readers l.initial.writers l.initial.certified l.initial.request)
+    (state_of l.counts l.processor_of l.may_read l.may_write l.active l.unlocked l.sleeping l.holder l.readers l.writers l.certified l.request)
+    l.initial.answers l.answers l.at l.i
+
+abbrev pub decreases-loop-at : goal.decreases-loop-at
+decreases-loop-at l =
+    length l.events - l.at
