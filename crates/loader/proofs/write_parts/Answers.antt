@@ -21,7 +21,7 @@ pub loop-made-preserved : goal.loop-made-preserved
 loop-made-preserved c = (
   omega arith,
   made_room c.args.state c.args.seed c.args.count c.loop-made.made c.loop-made.next c.smaller-n.result c.args.events.now c.loop-made.events _
-  c.make_events-part.result c.requires.0 c.loop-made.invariant.1 c.loop-made-test.true c.smaller-n.ensures c.make_events-part.ensures,
+      c.make_events-part.result c.requires.0 c.loop-made.invariant.1 c.loop-made-test.true c.smaller-n.ensures c.make_events-part.ensures,
   after_made c.args.state c.args.seed c.args.count c.loop-made.made c.loop-made.next c.smaller-n.result c.args.events.now c.loop-made.events _
-  c.make_events-part.result c.requires.0 c.loop-made.invariant.1 c.loop-made-test.true c.smaller-n.ensures c.make_events-part.ensures c.loop-made.invariant.2,
+      c.make_events-part.result c.requires.0 c.loop-made.invariant.1 c.loop-made-test.true c.smaller-n.ensures c.make_events-part.ensures c.loop-made.invariant.2,
 )
