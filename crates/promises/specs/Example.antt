@@ -1,34 +1,16 @@
--- The example of 01 ("The bench record"), in one table under one theorem: its twelve answers, and the three questions asked on the way. Then the ceilings
--- of an object there that nobody writes. Then an example of version 2 (02, CR 6), in the same way: twelve answers, and one question. Last one of jobs that
--- sleep (02, CR 8), and that a request of the running job can be answered otherwise by the old rule where a more urgent holder sleeps.
+-- The tables, events and answers of the examples: that of 01 ("The bench record"), whose table is in table/specs/Example.antt; one of version 2 (02, CR 6); and
+-- one of jobs that sleep (02, CR 8). proofs/Example shows that the manager answers so.
 -- Assumes nothing.
-use Rattle.std.specs.Prelude.{ℕ, ◌≡◌, refl, List, [], ◌∷◌}
-use Rattle.std.specs.Int.Count.{count_trailing_zeros, ones}
-use Rattle.basics.specs.Loops.{every, least, first_nonzero}
-use Rattle.basics.specs.Arrays.{mapped}
-use Rattle.ranks.specs.Ranks.{member, with, without, first, most_urgent, unions}
+use Rattle.std.specs.Prelude.{ℕ, List, [], ◌∷◌}
 use Rattle.state.specs.declared.State.{State}
-use Rattle.state.specs.State.{read, all_holders, mark, kept_in, drop_marks, activate, await, grant, release, fall_asleep, awaken, end_run}
-use Rattle.state.specs.WellFormed.{processors_fit, declarations_fit, above_idle, locks_fit, one_lock_each}
-use Rattle.state.specs.WellFormed.{writers_alone, waits_fit, marks_fit, certifies_fit, sleepers_fit, holder_fits, holders_in_order, well_formed}
-use Rattle.table_bytes.specs.Refusals.{header_refusal, length_refusal, processor_byte_refusal, entry_refusal, entries_refusal, table_refusal}
-use Rattle.table.specs.Example.{example}
-use Rattle.table.specs.Reading.{processors_of, with_right, declared_in, table_state, read_table}
-use Rattle.state.specs.Weights.{weight, old_weight}
-use Rattle.weights.specs.Keys.{others_key, object_key, lowest_key_by}
-use Rattle.rule.specs.Granting.{named_key, reason, wakeable}
-use Rattle.inheritance.specs.Running as R
-use Rattle.inheritance.specs.Running.{running_rank}
+use Rattle.table.specs.Reading.{read_table}
 use Rattle.questions.specs.declared.RankAnswer.{RankAnswer}
 use Rattle.questions.specs.declared.RankAnswer.TheVariants.{Rank}
-use Rattle.questions.specs.declared.CeilingsAnswer.TheVariants.{Ceilings}
+use Rattle.questions.specs.Questions.{ask_inherited_rank, ask_running}
 use Rattle.events.specs.Answers.{Paper, paper}
-use Rattle.refusals.specs.Refusals.{all_certified, event_refusal, refusal, job_refusal, object_refusal, processor_refusal}
-use Rattle.events.specs.Events.{request_meeting, woken, wake, accepted}
 use Rattle.manager.specs.Step.{step}
-use Rattle.questions.specs.Questions.{ask_inherited_rank, ask_ceilings, ask_running}
 use Rattle.theory.specs.Lists.{state_at}
-use Rattle.promises.specs.Terms.{Event, next, label, old_request}
+use Rattle.promises.specs.Terms.{Event, next, label}
 
 -- ---- the four answers, by their number and values
 
@@ -78,27 +60,6 @@ example_lines =
     ∷ event 5 3 0 (done 1)
     ∷ []
 
--- the reader accepts the bytes of the table, `example` in table/specs/Example.antt, and the manager answers the lines as they stand
-pub example_answers : ((read_table example).refusal ≡ 0) × (replay (read_table example).state example_lines ≡ example_lines)
-unfolding example_lines replay
-    every least first_nonzero mapped unions most_urgent all_holders member with without first count_trailing_zeros ones
-    mark kept_in drop_marks activate await grant release end_run
-    processors_fit declarations_fit above_idle locks_fit one_lock_each writers_alone waits_fit marks_fit certifies_fit sleepers_fit holder_fits holders_in_order well_formed
-    header_refusal length_refusal processor_byte_refusal entry_refusal entries_refusal table_refusal
-    processors_of with_right declared_in table_state read_table
-    weight others_key object_key lowest_key_by named_key reason wakeable R.inherited_rank running_rank
-    all_certified event_refusal refusal job_refusal processor_refusal request_meeting woken wake accepted step ask_inherited_rank ask_running
-example_answers = (refl, refl)
-
--- "where four jobs give 5 for an object that nobody writes" (02, CR 4): object 2 of the same table
-pub example_ceilings : ask_ceilings (read_table example).state 2 ≡ Ceilings 5 2
-unfolding every first_nonzero unions most_urgent all_holders member with first count_trailing_zeros ones
-    processors_fit declarations_fit above_idle locks_fit one_lock_each writers_alone waits_fit marks_fit certifies_fit sleepers_fit holder_fits holders_in_order well_formed
-    header_refusal length_refusal processor_byte_refusal entry_refusal entries_refusal table_refusal
-    processors_of with_right declared_in table_state read_table
-    object_refusal ask_ceilings
-example_ceilings = refl
-
 -- ---- version 2
 
 -- 1 processor; job 1 reads object 1, job 2 writes it
@@ -124,17 +85,6 @@ versions_lines =
     ∷ event 4 2 1 (refused 21)
     ∷ event 5 2 0 (done 1)
     ∷ []
-
-pub versions_answers : ((read_table versions_table).refusal ≡ 0) × (replay (read_table versions_table).state versions_lines ≡ versions_lines)
-unfolding versions_lines replay
-    every least first_nonzero mapped unions most_urgent all_holders member with without first count_trailing_zeros ones
-    mark kept_in drop_marks activate await grant release end_run
-    processors_fit declarations_fit above_idle locks_fit one_lock_each writers_alone waits_fit marks_fit certifies_fit sleepers_fit holder_fits holders_in_order well_formed
-    header_refusal length_refusal processor_byte_refusal entry_refusal entries_refusal table_refusal
-    processors_of with_right declared_in table_state read_table
-    weight others_key object_key lowest_key_by named_key reason wakeable R.inherited_rank
-    all_certified event_refusal refusal job_refusal request_meeting woken wake accepted step ask_inherited_rank
-versions_answers = (refl, refl)
 
 -- ---- jobs that sleep
 
@@ -162,17 +112,6 @@ sleep_lines =
     ∷ event 5 2 0 (done 1)
     ∷ []
 
-pub sleep_answers : ((read_table sleep_table).refusal ≡ 0) × (replay (read_table sleep_table).state sleep_lines ≡ sleep_lines)
-unfolding sleep_lines replay
-    every least first_nonzero mapped unions most_urgent all_holders member with without first count_trailing_zeros ones
-    mark kept_in drop_marks activate await grant release fall_asleep awaken end_run
-    processors_fit declarations_fit above_idle locks_fit one_lock_each writers_alone waits_fit marks_fit certifies_fit sleepers_fit holder_fits holders_in_order well_formed
-    header_refusal length_refusal processor_byte_refusal entry_refusal entries_refusal table_refusal
-    processors_of with_right declared_in table_state read_table
-    weight others_key object_key lowest_key_by named_key reason wakeable R.inherited_rank running_rank
-    all_certified event_refusal refusal job_refusal processor_refusal request_meeting woken wake accepted step ask_inherited_rank ask_running
-sleep_answers = (refl, refl)
-
 -- Job 1 starts, reads object 2 and falls asleep; job 2 starts.
 abbrev pub sleep_events : List Event
 sleep_events =
@@ -184,16 +123,3 @@ sleep_events =
 
 abbrev pub slept : State
 slept = state_at next label (read_table sleep_table).state sleep_events 4
-
--- After these events of a fresh state of version 1 the only processor runs job 2. Its request for a read lock on object 2 waits for the sleeper's lock there,
--- but by the old rule it is granted: nobody writes the object. So the equality needs its condition (`one_processor`).
-pub asleep_differs : (slept.counts.version ≡ 1) × (slept.counts.processors ≡ 1) × (ask_running slept 0 ≡ Rank 2)
-    × (paper (step slept 2 2 2).answer ≡ waits 1 2 3) × (paper (old_request slept read 2 2).answer ≡ granted)
-unfolding every least first_nonzero mapped unions most_urgent all_holders member with without first count_trailing_zeros ones
-    mark kept_in drop_marks activate await grant release fall_asleep awaken end_run
-    processors_fit declarations_fit above_idle locks_fit one_lock_each writers_alone waits_fit marks_fit certifies_fit sleepers_fit holder_fits holders_in_order well_formed
-    header_refusal length_refusal processor_byte_refusal entry_refusal entries_refusal table_refusal
-    processors_of with_right declared_in table_state read_table
-    weight old_weight others_key object_key lowest_key_by named_key reason wakeable R.inherited_rank running_rank
-    all_certified event_refusal refusal processor_refusal request_meeting woken wake accepted step ask_running
-asleep_differs = (refl, refl, refl, refl, refl)

@@ -1,0 +1,14 @@
+-- `generator::lay_load` meets its contract. The loop's invariant: the events made so far stand at the front, and the seed is the one behind them. A turn lays
+-- one event more behind them. It ends because the events left fall. Assumes nothing.
+use Rattle.std.proofs.Common.{◌≡◌, ℕ, ◌+◌, ◌-◌, ◌*◌, ◌≤◌, ◌++◌, sym, refl, ap, ◌∙◌, arith, rules}
+use Rattle.decimals.specs.Laid.{Laid, at_front, laid_then, laid_is, laid_length, laid_at_front}
+use Rattle.generator.specs.Load.{step, event_from, seed_after, load}
+use Rattle.generator.specs.LoadLaws.{load_length, seed_more, load_more}
+use Rattle.generator.proofs.lay_load.Given as goal
+
+abbrev pub invariant-loop-made : goal.invariant-loop-made
+invariant-loop-made l =
+    (l.made ≤ l.count) × (l.next ≡ seed_after l.made l.seed) × Laid l.initial.buf l.buf 0 (3 * l.made) (3 * l.made) (load l.counts l.made l.seed)
+
+abbrev pub decreases-loop-made : goal.decreases-loop-made
+decreases-loop-made l = l.count - l.made
