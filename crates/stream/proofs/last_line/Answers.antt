@@ -1,0 +1,9 @@
+-- `stream::last_line` meets its contract: the line laid from index 0 on stands at the front of the 64 bytes.
+-- Assumes nothing.
+use native.Mathlib.Omega.{arith}
+use Rattle.lines.specs.LineLaws.{line_laid}
+use borrow.Author.Rules.{rules}
+use Rattle.stream.proofs.last_line.Goals as goal
+
+pub returns : goal.returns
+returns c = line_laid c.lay_last.ensures (omega arith) (omega arith)
