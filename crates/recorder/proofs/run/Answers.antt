@@ -1,7 +1,6 @@
 -- `recorder::run` meets its contract: a turn feeds one part more, and each way out hands back what the parts that came leave.
 -- Assumes nothing.
-use Rattle.std.proofs.Common.{◌≡◌, refl, ap, inr, ℕ, ◌+◌, ◌≤◌, List, length, arith}
-use Rattle.decimals.specs.Laid.{laid_length}
+use Rattle.std.proofs.Common.{refl, ap, inr, ℕ, ◌+◌, ◌≤◌, List, length, arith}
 use Rattle.stream.specs.declared.Bench.{Bench}
 use Rattle.recorder.specs.RecordingLaws.{after_none, after_fed, fed_short, fed_count, held_within, records_is}
 use Rattle.recorder.proofs.run.Goals as goal
@@ -21,7 +20,7 @@ returns-then-not-write_lines g c =
     let within = held_within c.loop-received.bench filled input _ _ _ c.feed-fed.result inside f in
     records_is c.hand_back-then-not-write_lines.ensures
     (after_fed c.loop-received.bench filled input _ _ _ c.feed-fed.result inside f c.loop-received.held c.in-Bytes.count c.loop-received.received c.loop-received.input _ c.loop-received.invariant.4 came.kept refl)
-    (omega (arith, within, inside, laid_length f.held)) tt
+    (omega (arith, within, inside, c.feed-fed.auto.input)) tt
 
 pub returns-then-bench-gt1 : goal.returns-then-bench-gt1
 returns-then-bench-gt1 g c =
@@ -33,7 +32,7 @@ returns-then-bench-gt1 g c =
     let within = held_within c.loop-received.bench filled input _ _ _ c.feed-fed.result inside f in
     records_is c.hand_back-then-bench-gt1.ensures
     (after_fed c.loop-received.bench filled input _ _ _ c.feed-fed.result inside f c.loop-received.held c.in-Bytes.count c.loop-received.received c.loop-received.input _ c.loop-received.invariant.4 came.kept refl)
-    (omega (arith, within, inside, laid_length f.held)) (inr c.if-bench-gt1.true)
+    (omega (arith, within, inside, c.feed-fed.auto.input)) (inr c.if-bench-gt1.true)
 
 pub loop-received-preserved : goal.loop-received-preserved
 loop-received-preserved g c =
@@ -45,7 +44,7 @@ loop-received-preserved g c =
     let events = fed_count c.loop-received.bench filled input _ _ _ c.feed-fed.result inside f in (
       fed_short c.loop-received.bench filled input _ _ _ c.feed-fed.result inside f c.if-bench-gt1.false,
       omega (arith, events, c.loop-received.invariant.1),
-      omega (arith, laid_length f.held, came.size, c.loop-received.invariant.2),
-      omega (arith, laid_length f.laid, c.loop-received.invariant.3),
+      omega (arith, c.feed-fed.auto.input, came.size, c.loop-received.invariant.2),
+      omega (arith, c.feed-fed.auto.lines, c.loop-received.invariant.3),
       after_fed c.loop-received.bench filled input _ _ _ c.feed-fed.result inside f c.loop-received.held c.in-Bytes.count c.loop-received.received c.loop-received.input _ c.loop-received.invariant.4 came.kept refl,
     )
