@@ -46,6 +46,39 @@ module _ (readers writers : List ℕ) (h : ℕ) where
     pub rank : 1 ≤ count → 1 ≤ h
     pub locks : LocksTo objects objects list count
 
+  -- the first `count` of a list are objects that h holds
+  abbrev pub HeldTo : (list : List ℕ) (count : ℕ) → Type 0
+  HeldTo list count = (i : ℕ) → 1 ≤ i → i ≤ count → held_by (at list i) ≡ true
+
+  pub held_none : (list : List ℕ) → HeldTo list 0
+  held_none list i a b = absurd (omega arith)
+
+  module _ (count v : ℕ) (list : List ℕ) (room : count < length list) (H : HeldTo list count) where
+    abbrev stored_behind : put list (count + 1) v ≡ set list count v
+    stored_behind = let back : count + 1 - 1 ≡ count = omega arith in put_index list (count + 1) v (omega arith) ∙ ap (λ k. set list k v) back
+
+    held_before : (i : ℕ) → i ≤ count → at (set list count v) i ≡ at list i
+    held_before i l = ap (λ xs. at xs i) (sym stored_behind) ∙ at-put_other list (count + 1) v i (λ e. omega arith)
+
+    held_put : held_by v ≡ true → HeldTo (set list count v) (count + 1)
+    held_put here i a b = elim (dec_le i count) [
+      | yes l ↦ ap held_by (held_before i l) ∙ H i a l
+      | no l ↦ (
+        let last : at (set list count v) (count + 1) ≡ v = ap (λ xs. at xs (count + 1)) (sym stored_behind) ∙ at-put_same list (count + 1) v (omega arith) (omega arith) in
+        let e : count + 1 ≡ i = omega arith in
+        subst (λ k. held_by (at (set list count v) k) ≡ true) e (ap held_by last ∙ here)
+      )
+    ]
+
+    held_over : HeldTo (set list count v) count
+    held_over i a b = ap held_by (held_before i b) ∙ H i a b
+
+  -- one more is put behind the others, and counted where h holds it
+  pub held_next : (done count : ℕ) (list : List ℕ) (held : Bool) → held ≡ held_by (done + 1) → count < length list → HeldTo list count
+      → HeldTo (set list count (done + 1)) (count + one_if held)
+  held_next done count list true e room H = held_put count (done + 1) list room H (sym e)
+  held_next done count list false e room H = subst (HeldTo (set list count (done + 1))) (sym (add-zero count)) (held_over count (done + 1) list room H)
+
   -- eight objects at the most are passed over
   pub passed_small : (done free : ℕ)
       → (free ≡ 0) ⊎ ((free ≡ block_size) × (done + block_size ≤ most_objects) × ((k : ℕ) → 1 ≤ k → k ≤ block_size → held_by (done + k) ≡ false)) → free ≤ block_size

@@ -2,13 +2,15 @@
 -- Assumes nothing.
 use Rattle.std.specs.Prelude.{◌≡◌, refl, List, ◌≢◌, Bool, false, ◌||◌, ℕ, ◌-◌, ◌≤◌, min, eqb, ltb, get_or}
 use Rattle.std.proofs.Common.{sym, eq-eqb, ne_eqb}
-use Rattle.basics.specs.Arrays.{at_index}
+use Rattle.basics.specs.Arrays.{at, at_index}
 use Rattle.basics.specs.Choice.{if◌then◌else◌}
 use Rattle.basics.specs.Loops.{least}
+use Rattle.ranks.specs.Ranks.{member, with, disjoint, up_to}
 use Rattle.state.specs.declared.Counts.{Counts}
 use Rattle.state.specs.declared.State.{State}
 use Rattle.state.specs.State.{read, write, marked, holders}
 use Rattle.state.specs.Weights.{more_urgent, ceiling_of, weight}
+use Rattle.state.specs.WeightLaws.{weighing_of}
 use Rattle.weights.specs.Keys.{no_key, key_weight}
 use Rattle.weights.specs.ObjectKeys.{held_key, writers_weight}
 use Rattle.weights.specs.Parts.{locks_state}
@@ -51,3 +53,19 @@ pub own_key_there : (counts : Counts) (may_read may_write readers writers certif
 unfolding weight
 own_key_there counts may_read may_write readers writers certified h o low =
     rw (sym (at_index readers o low), sym (at_index writers o low), sym (at_index may_read o low), sym (at_index may_write o low)) refl
+
+-- the ranks whose most urgent one is what h's lock on an object weighs, by the object's sets and whether its write lock shares with none: those that a write lock
+-- weighs by, if it has that; of a read lock those declared to write the object, and h, the cap
+abbrev pub weighed_by : Bool → (writers may_read may_write h : ℕ) → ℕ
+weighed_by none writers may_read may_write h = if member writers h then weighing_of none may_read may_write else with may_write h
+
+-- j is more urgent than h's lock on o, if it has one: none of these ranks is j or more urgent (PassingLaws)
+abbrev pub passes_lock : (version : ℕ) (may_read may_write writers certified : List ℕ) (o h j : ℕ) → Bool
+passes_lock version may_read may_write writers certified o h j =
+    disjoint (weighed_by (eqb version 1 || marked certified o) (at writers o) (at may_read o) (at may_write o) h) (up_to j)
+
+pub passes_lock_there : (version : ℕ) (may_read may_write writers certified : List ℕ) (o h j : ℕ) → 1 ≤ o
+    → passes_lock version may_read may_write writers certified o h j
+    ≡ disjoint (weighed_by (eqb version 1 || marked certified o) (get_or writers (o - 1) 0) (get_or may_read (o - 1) 0) (get_or may_write (o - 1) 0) h) (up_to j)
+passes_lock_there version may_read may_write writers certified o h j low =
+    rw (sym (at_index writers o low), sym (at_index may_read o low), sym (at_index may_write o low)) refl

@@ -63,6 +63,19 @@ module _ (s : State) (H : HolderFacts s) where
           subst (λ n. In (holders s n o) h → least s.counts.objects no_key (holder_key_at s h) ≤ lock_key (weight s n h o) h o) (sym e)
           (λ j. omega (arith, low, held_is (holders s write o) (weight s write h o) o h j)) i
 
+  -- whoever holds a lock has a lowest key that weighs at most its rank
+  own_bound : (h m o : ℕ) → Mode m → In (holders s m o) h → holder_key s h ≤ h * 65536 + h * 256 + 255
+  own_bound h m o mode i = omega (arith, own_below h m o mode i, own_weight s H m h o i, H.object m h o i, H.few)
+
+  -- and so has the most urgent holder
+  pub own_high : s.holder ≢ 0 → holder_key s s.holder ≤ s.holder * 65536 + s.holder * 256 + 255
+  own_high some =
+      let w = carried_holds s H some in
+      elim (ℕ_discrete w.0 read) [
+        | yes e ↦ own_bound s.holder read w.1 (inl refl) (subst (λ m. In (holders s m w.1) s.holder) e w.2)
+        | no d ↦ own_bound s.holder write w.1 (inr refl) (simp (ne_eqb w.0 read d) at w.2)
+      ]
+
   module _ (j : ℕ) where
     -- "If .. that is the requester, the answer is a grant", and where nobody holds a lock: j is more urgent than every lock of others
     pub holder_passes : j ≤ most_jobs → (s.holder ≡ 0) ⊎ (s.holder ≡ j) → (j + 1) * 65536 ≤ lowest_key s j
@@ -100,19 +113,8 @@ module _ (s : State) (H : HolderFacts s) where
           each m r o l = elim (ℕ_discrete r h) [
             | yes e ↦ subst (λ x. In (holders s m o) x → holder_key s h ≤ lock_key (weight s m x o) x o) (sym e) (own_below h m o l.mode) l.held
             | no d ↦
-                let w = carried_holds s H some in
-                let own = own_any w.0 w.1 w.2 in
-                omega (arith, own, others_weigh s H m r o l.held d, rank_small)
+                omega (arith, own_high some, others_weigh s H m r o l.held d, rank_small)
           ]
-            where
-              own_any : (n p : ℕ) → In (holders s n p) h → holder_key s h ≤ h * 65536 + h * 256 + 255
-              own_any n p i = elim (ℕ_discrete n read) [
-                | yes e ↦ bound read p (inl refl) (subst (λ k. In (holders s k p) h) e i)
-                | no d ↦ bound write p (inr refl) (simp (ne_eqb n read d) at i)
-              ]
-                where
-                  bound : (k p : ℕ) → Mode k → In (holders s k p) h → holder_key s h ≤ h * 65536 + h * 256 + 255
-                  bound k p mode i = omega (arith, own_below h k p mode i, own_weight s H k h p i, H.object k h p i, H.few)
 
       pub holder_decides : lowest_key s j ≡ holder_key s h
       holder_decides = le_antisymm full_below own_first

@@ -7,11 +7,11 @@ ghost use Rattle.state.specs.State.{most_jobs, most_objects, marked};
 ghost use Rattle.state.specs.Holders.{held_state};
 ghost use Rattle.weights.specs.Keys.{lock_key, no_key};
 ghost use Rattle.weights.specs.Parts.{locks_state};
-ghost use Rattle.one_holder.specs.OneHolder.{own_key, holder_key_at, holder_key, key_against, deciding_key};
-ghost use Rattle.one_holder.specs.Gathering.{block_size, held_by, LocksOf};
+ghost use Rattle.one_holder.specs.OneHolder.{own_key, holder_key_at, holder_key, key_against, deciding_key, weighed_by, passes_lock};
+ghost use Rattle.one_holder.specs.Gathering.{block_size, held_by, LocksOf, HeldTo};
 
 use ranks::RankSet;
-use state::{Counts, ObjectMarks, Sets, union_of};
+use state::{Counts, ObjectMarks, Sets, union_of, weighing};
 use weights::{NO_KEY, ceiling, lock_key, lower, more_urgent, write_weight};
 
 // Objects, the first so many of a list.
@@ -43,7 +43,8 @@ fn one_if(test: bool) -> usize
 // The objects of the table that the rank has locked; none where the rank is 0, nobody.
 pub fn locked_by<'a>(counts: Counts, readers: Sets<'a>, writers: Sets<'a>, rank: u8) -> Locked
     requires { (counts.objects ≤ most_objects) × (rank ≤ most_jobs) }
-    ensures { LocksOf readers.entry.now writers.entry.now rank counts.objects result.objects result.count }
+    ensures locks { LocksOf readers.entry.now writers.entry.now rank counts.objects result.objects result.count }
+    ensures held { HeldTo readers.entry.now writers.entry.now rank result.objects result.count }
 {
     let most = counts.objects as usize;
     let mut objects: [u8; 128] = [0; 128];
@@ -191,4 +192,51 @@ pub fn deciding_key<'a>(
     holder_key(
         counts, may_read, may_write, readers, writers, certified, holder,
     )
+}
+
+// The ranks whose most urgent one is what the holder's lock on an object with these sets weighs: of a read lock those declared to write the object, and the holder.
+fn weighed_by(
+    version: u8,
+    certified: &ObjectMarks,
+    writers: RankSet,
+    may_read: RankSet,
+    may_write: RankSet,
+    object: u8,
+    holder: u8,
+) -> RankSet
+    requires { (1 ≤ object) × (object ≤ most_objects) × (1 ≤ holder) × (holder ≤ most_jobs) }
+    ensures { result ≡ weighed_by (eqb version 1 || marked certified.now object) writers may_read may_write holder }
+{
+    if ranks::contains(writers, holder) {
+        weighing(version, certified, may_read, may_write, object)
+    } else {
+        ranks::with(may_write, holder)
+    }
+}
+
+// Whether the rank is more urgent than the lock that the holder has on the object.
+pub fn passes_lock<'a>(
+    version: u8,
+    may_read: Sets<'a>,
+    may_write: Sets<'a>,
+    writers: Sets<'a>,
+    certified: &'a ObjectMarks,
+    object: u8,
+    holder: u8,
+    rank: u8,
+) -> bool
+    requires { (1 ≤ object) × (object ≤ most_objects) × (1 ≤ holder) × (holder ≤ most_jobs) × (rank ≤ most_jobs) }
+    ensures { result ≡ passes_lock version may_read.entry.now may_write.entry.now writers.entry.now certified.now object holder rank }
+{
+    let place = (object - 1) as usize;
+    let set = weighed_by(
+        version,
+        certified,
+        writers[place],
+        may_read[place],
+        may_write[place],
+        object,
+        holder,
+    );
+    ranks::is_empty(ranks::common(set, ranks::up_to(rank)))
 }

@@ -17,15 +17,16 @@ use Rattle.state.specs.declared.Counts.{Counts}
 use Rattle.state.specs.declared.State.{State}
 use Rattle.state.specs.State.{most_jobs, request_of, is_waiting}
 use Rattle.state.specs.Weights.{weight}
-use Rattle.state.specs.Holders.{HolderFacts, held_state}
+use Rattle.state.specs.Holders.{HolderFacts, held_state, carried_small}
 use Rattle.weights.specs.Keys.{no_key, others_key, object_key, lowest_key_by}
 use Rattle.weights.specs.Parts.{locks_state}
-use Rattle.one_holder.specs.OneHolder.{holder_key_at, holder_key, deciding_key, against_other}
-use Rattle.one_holder.specs.OneHolderLaws.{deciding}
-use Rattle.one_holder.specs.Gathering.{LocksOf, gathered_key}
+use Rattle.one_holder.specs.OneHolder.{holder_key_at, holder_key, deciding_key, passes_lock, against_other}
+use Rattle.one_holder.specs.OneHolderLaws.{deciding, own_high}
+use Rattle.one_holder.specs.PassingLaws.{passes_lock_lem}
+use Rattle.one_holder.specs.Gathering.{LocksOf, HeldTo, gathered_key}
 use Rattle.rule.specs.Granting.{passes_below, passes, wakes, named_key_of, conflicts, reason_of}
 use Rattle.rule.specs.Parts.{waits_state}
-use Rattle.rule.specs.WakeLaws.{not_counting, all_stopped, IdleTo}
+use Rattle.rule.specs.WakeLaws.{not_counting, all_stopped, IdleTo, NextWaiting, found_next}
 
 -- ---- the named key
 
@@ -127,24 +128,46 @@ module _ (counts : Counts) (may_read may_write : List ℕ) (holder : ℕ) (reade
   pub none_left : (n : ℕ) → first_nonzero n woken ≡ 0 → IdleTo request n counts.jobs → 0 ≡ first_nonzero counts.jobs woken
   none_left n passed idle = sym (all_zero_first counts.jobs woken (passed_to n counts.jobs passed idle))
 
+  -- a rank that is not woken, since it meets a key that it does not pass
+  not_woken : (i key : ℕ) → i ≤ most_jobs → deciding_key t i ≡ key → passes_below i key ≡ false → woken i ≡ 0
+  not_woken i key high e b = go (is_waiting s i) (passes s i) (sym (passes_by i high) ∙ ap (passes_below i) e ∙ b)
+    where
+      go : (a b : Bool) → b ≡ false → (if a && b then i else 0) ≡ 0
+      go true b e = simp e
+      go false b e = refl
+
+  -- where nobody up to the most urgent holder waits, its locks stop whoever does
+  pub none_above : counts.jobs ≤ most_jobs → (w : ℕ) → NextWaiting request 0 counts.jobs w → holder ≢ 0 → holder < w → 0 ≡ first_nonzero counts.jobs woken
+  none_above few w next some behind = sym (all_zero_first counts.jobs woken (λ i a b. each i a b (dec_lt i w)))
+    where
+      first : (0 < w) × (w ≤ counts.jobs) × (at request w ≢ 0) × IdleTo request 0 (w - 1)
+      first = found_next request 0 counts.jobs w next (λ e. omega arith)
+
+      each : (i : ℕ) → 1 ≤ i → i ≤ counts.jobs → Dec (i < w) → woken i ≡ 0
+      each i a b (yes l) = simp (first.3 i (omega arith) (omega arith))
+      each i a b (no l) =
+          not_woken i (holder_key t holder) (omega arith) (against_other holder (holder_key t holder) i (λ e. omega arith))
+          (le-ltb i (holder_key t holder / 65536) (omega (arith, own_high t H some, carried_small t H)))
+
   module _ (list : List ℕ) (count : ℕ) (G : LocksOf readers writers holder counts.objects list count) where
     -- the lowest over the gathered objects
     gathered : least count no_key (λ k. own (at list k)) ≡ holder_key t holder
     unfolding holder_key weight
     gathered = gathered_key (locks_state counts may_read may_write readers writers certified) holder list count G
 
+    -- whether j is more urgent than a gathered lock is whether it passes its key
+    pub passes_gathered : (j k : ℕ) → j ≤ counts.jobs → counts.jobs ≤ most_jobs → 1 ≤ k → k ≤ count
+        → HeldTo readers writers holder list count
+        → passes_below j (own (at list k)) ≡ passes_lock counts.version may_read may_write writers certified (at list k) holder j
+    unfolding weight
+    passes_gathered j k high few a b held = sym (passes_lock_lem t H j high few holder (at list k) (held k a b))
+
     -- a lock that stops j stops whoever is less urgent and not the holder
     stopped : (j i k : ℕ) → j ≤ i → i ≤ most_jobs → holder ≢ i → 1 ≤ k → k ≤ count → passes_below j (own (at list k)) ≡ false → woken i ≡ 0
     stopped j i k l high d p h b =
-        let no : passes_below i (deciding_key t i) ≡ false =
-        ap (passes_below i) (against_other holder (holder_key t holder) i d)
-        ∙ le-ltb i (holder_key t holder / 65536)
-        (omega (arith, ltb-false j (own (at list k) / 65536) b, least-le count no_key (λ k. own (at list k)) k p h, gathered)) in
-        go (is_waiting s i) (passes s i) (sym (passes_by i high) ∙ no)
-      where
-        go : (a b : Bool) → b ≡ false → (if a && b then i else 0) ≡ 0
-        go true b e = simp e
-        go false b e = refl
+        not_woken i (holder_key t holder) high (against_other holder (holder_key t holder) i d)
+        (le-ltb i (holder_key t holder / 65536)
+        (omega (arith, ltb-false j (own (at list k) / 65536) b, least-le count no_key (λ k. own (at list k)) k p h, gathered)))
 
     let_by : (j : ℕ) → j ≤ most_jobs → request_of s j ≢ 0 → LetBy own list holder count j count → woken j ≡ j
     let_by j high w L =

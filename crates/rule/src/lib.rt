@@ -8,7 +8,7 @@ ghost use Rattle.rule.specs.Granting as G;
 ghost use Rattle.rule.specs.Parts.{waits_state};
 ghost use Rattle.rule.specs.WakeLaws.{not_counting, all_stopped, IdleTo, NextWaiting};
 
-use one_holder::{locked_by, own_key_at};
+use one_holder::{locked_by, passes_lock};
 use ranks::RankSet;
 use state::{Counts, JobRequests, ObjectMarks, Sets, none_waits};
 use weights::NO_KEY;
@@ -114,6 +114,50 @@ fn next_waiting(request: &JobRequests, rank: u8, jobs: u8) -> u8
 }
 
 // The most urgent waiting rank whose request passes, and 0 where none does. The locks of the most urgent holder decide; which objects they are on is gathered once.
+fn search<'a>(
+    counts: Counts,
+    may_read: Sets<'a>,
+    may_write: Sets<'a>,
+    holder: u8,
+    readers: Sets<'a>,
+    writers: Sets<'a>,
+    certified: &'a ObjectMarks,
+    request: &'a JobRequests,
+) -> u8
+    requires { (counts.jobs ≤ most_jobs) × HolderFacts (held_state counts may_read.now may_write.now holder readers.now writers.now certified.now) }
+    ensures { result ≡ G.wakeable (waits_state counts may_read.entry.now may_write.entry.now readers.entry.now writers.entry.now certified.now request.now) }
+{
+    let locked = locked_by(counts, readers, writers, holder);
+    let mut rank: u8 = 0;
+    'search: loop {
+        rank = next_waiting(request, rank, counts.jobs);
+        if rank == 0 {
+            break 'search 0;
+        }
+        let mut done = not_counting(holder, locked.count, rank);
+        while done < locked.count {
+            let object = locked.objects[done];
+            done += 1;
+            let passed = passes_lock(
+                counts.version,
+                may_read,
+                may_write,
+                writers,
+                certified,
+                object,
+                holder,
+                rank,
+            );
+            if !passed {
+                rank = all_stopped(holder, rank, counts.jobs);
+                continue 'search;
+            }
+        }
+        break 'search rank;
+    }
+}
+
+// The same, without a look at the locks where nobody waits, or nobody who is more urgent than the most urgent holder, or it: its locks stop all others.
 pub fn wakeable<'a>(
     counts: Counts,
     may_read: Sets<'a>,
@@ -130,25 +174,11 @@ pub fn wakeable<'a>(
     if none_waits(request, 0, 64) {
         return 0;
     }
-    let locked = locked_by(counts, readers, writers, holder);
-    let mut rank: u8 = 0;
-    'search: loop {
-        rank = next_waiting(request, rank, counts.jobs);
-        if rank == 0 {
-            break 'search 0;
-        }
-        let mut done = not_counting(holder, locked.count, rank);
-        while done < locked.count {
-            let object = locked.objects[done];
-            done += 1;
-            let key = own_key_at(
-                counts, may_read, may_write, readers, writers, certified, object, holder,
-            );
-            if !passes(rank, key) {
-                rank = all_stopped(holder, rank, counts.jobs);
-                continue 'search;
-            }
-        }
-        break 'search rank;
+    let first = next_waiting(request, 0, counts.jobs);
+    if (holder != 0) & (holder < first) {
+        return 0;
     }
+    search(
+        counts, may_read, may_write, holder, readers, writers, certified, request,
+    )
 }

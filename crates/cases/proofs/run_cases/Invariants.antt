@@ -1,6 +1,11 @@
--- It ends because the text that is left falls. Assumes nothing.
-use Rattle.std.proofs.Common.{length}
+-- `cases::run_cases` is safe and ends: the measure is how many bytes of the text are left. Assumes nothing.
+use borrow.Author.Rules.{rules}
+use native.Mathlib.Omega.{arith}
+use lib.ListN.{length}
 use Rattle.cases.proofs.run_cases.Given as goal
+
+abbrev pub invariant-loop-rest : goal.invariant-loop-rest
+invariant-loop-rest l = Unit {0}
 
 abbrev pub decreases-loop-rest : goal.decreases-loop-rest
 decreases-loop-rest l = length l.rest

@@ -20,9 +20,9 @@ loop-i-init c = (omega arith, refl)
 pub own_key_at-key-requires : goal.own_key_at-key-requires
 own_key_at-key-requires c =
     let i = c.loop-i.i in
-    let w = c.locked_by-locked.ensures.locks.inside (i + 1) (omega arith) (omega (arith, c.loop-i-test.true)) in
+    let w = c.locked_by-locked.ensures.locks.locks.inside (i + 1) (omega arith) (omega (arith, c.loop-i-test.true)) in
     let here = at_next c.locked_by-locked.result.objects i in
-    (omega (arith, here, w.0), omega (arith, here, w.1, c.requires), omega (arith, c.locked_by-locked.ensures.rank (omega (arith, c.loop-i-test.true))), c.requires.1)
+    (omega (arith, here, w.0), omega (arith, here, w.1, c.requires), omega (arith, c.locked_by-locked.ensures.locks.rank (omega (arith, c.loop-i-test.true))), c.requires.1)
 
 pub loop-i-preserved : goal.loop-i-preserved
 loop-i-preserved c =
@@ -41,4 +41,4 @@ returns c =
     let list = c.locked_by-locked.result.objects in
     let all : c.loop-i.i ≡ c.locked_by-locked.result.count = omega (arith, c.loop-i.invariant.0, c.loop-i-test.false) in
     c.loop-i.invariant.1 ∙ ap (λ (n : ℕ). least n no_key (λ k. holder_key_at s a.holder (at list k))) all
-    ∙ gathered_key s a.holder list c.locked_by-locked.result.count c.locked_by-locked.ensures
+    ∙ gathered_key s a.holder list c.locked_by-locked.result.count c.locked_by-locked.ensures.locks

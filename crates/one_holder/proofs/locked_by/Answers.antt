@@ -8,7 +8,7 @@ use lib.ListN.{length, set, length-set}
 use Rattle.basics.specs.Arrays.{at_next}
 use Rattle.ranks.specs.Ranks.{member, union}
 use Rattle.state.specs.State.{most_objects}
-use Rattle.one_holder.specs.Gathering.{held_by, LocksTo, passed_small, locks_none, locks_passed, locks_next, nobody_locks}
+use Rattle.one_holder.specs.Gathering.{held_by, LocksTo, HeldTo, held_next, passed_small, locks_none, locks_passed, locks_next, nobody_locks}
 use borrow.Author.Rules.{rules}
 use Rattle.one_holder.proofs.locked_by.Goals as goal
 
@@ -17,7 +17,7 @@ loop-i-preserved-then-free-ne0 c =
     let a = c.args in
     let inv = c.loop-i.invariant in
     let next = locks_passed a.readers.now a.writers.now a.rank a.counts.objects c.loop-i.i c.passed_over-free.result c.loop-i.count c.loop-i.objects c.if-free-ne0.true c.passed_over-free.ensures inv.3 in
-    (next.0, omega (arith, inv.1), inv.2, next.1)
+    (next.0, omega (arith, inv.1), inv.2, next.1, inv.4)
 
 pub loop-i-preserved : goal.loop-i-preserved
 loop-i-preserved c =
@@ -32,7 +32,9 @@ loop-i-preserved c =
       omega (arith, c.one_if-count.ensures.1, inv.1),
       length-set c.loop-i.objects c.loop-i.count (i + 1) ∙ inv.2,
       subst (λ (n : ℕ). LocksTo rd wr a.rank a.counts.objects (i + 1) (set c.loop-i.objects c.loop-i.count (i + 1)) (c.loop-i.count + n)) (sym c.one_if-count.ensures.0) next,
+      subst (λ (n : ℕ). HeldTo rd wr a.rank (set c.loop-i.objects c.loop-i.count (i + 1)) (c.loop-i.count + n)) (sym c.one_if-count.ensures.0)
+          (held_next rd wr a.rank i c.loop-i.count c.loop-i.objects c.contains-held.result held (omega (arith, inv.1, inv.2)) inv.4),
     )
 
-pub returns-then-rank-eq0 : goal.returns-then-rank-eq0
-returns-then-rank-eq0 c = nobody_locks c.args.readers.now c.args.writers.now c.args.rank c.args.counts.objects _ c.if-rank-eq0.true
+pub returns-then-rank-eq0-clause-locks : goal.returns-then-rank-eq0-clause-locks
+returns-then-rank-eq0-clause-locks c = nobody_locks c.args.readers.now c.args.writers.now c.args.rank c.args.counts.objects _ c.if-rank-eq0.true

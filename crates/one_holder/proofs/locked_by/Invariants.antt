@@ -8,13 +8,14 @@ use lib.ListN.{length, set, length-set}
 use Rattle.basics.specs.Arrays.{at_next}
 use Rattle.ranks.specs.Ranks.{member, union}
 use Rattle.state.specs.State.{most_objects}
-use Rattle.one_holder.specs.Gathering.{held_by, LocksTo, passed_small, locks_none, locks_passed, locks_next, nobody_locks}
+use Rattle.one_holder.specs.Gathering.{held_by, LocksTo, HeldTo, passed_small, locks_none, locks_passed, locks_next, nobody_locks}
 use borrow.Author.Rules.{rules}
 use Rattle.one_holder.proofs.locked_by.Given as goal
 
 abbrev pub invariant-loop-i : goal.invariant-loop-i
 invariant-loop-i l =
     (l.i ≤ most_objects) × (l.count ≤ l.i) × (length l.objects ≡ most_objects) × LocksTo l.readers l.writers l.rank l.most l.i l.objects l.count
+    × HeldTo l.readers l.writers l.rank l.objects l.count
 
 abbrev pub decreases-loop-i : goal.decreases-loop-i
 decreases-loop-i l = l.most - l.i

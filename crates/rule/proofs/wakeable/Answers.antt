@@ -1,23 +1,17 @@
--- `rule::wakeable` meets its contract. The outer loop's invariant: no rank counted so far waits with a request that passes. The inner loop's: the
--- rank is the holder, or more urgent than every lock of the holder that is passed (LetBy). A lock that stops the rank stops whoever is less urgent, but for the
--- holder, which is tried next; where no lock is left the rank is the first that wakes. The numbers of ranks and of locks left fall.
+-- `rule::wakeable` meets its contract: where nobody waits nobody is woken, nor where all who do are less urgent than the most urgent holder; else the search finds who is.
 -- Assumes nothing.
-use mathlib.Core.Path.{◌≡◌, refl, sym, subst, ap, ap₂, ◌∙◌}
-use Prim.Native.Nat.{ℕ, ◌+◌, ◌-◌, ◌≤◌}
+use mathlib.Core.Path.{sym, ap, ◌∙◌}
+use mathlib.Core.Bool.{not}
+use Prim.Native.Nat.{ℕ, ◌+◌}
 use native.Mathlib.Nat.{zero-add}
-use native.Mathlib.Omega.{arith}
-use lib.Dec.{eqb}
-use borrow.Author.Tests.{not-true, not-false}
-use Rattle.basics.specs.Arrays.{at, at_next}
-use Rattle.basics.specs.Loops.{every_same, first_nonzero}
+use lib.Dec.{eqb, ltb}
+use borrow.Author.Tests.{eqb-false, ltb-true, not-true}
+use Rattle.basics.specs.Choice.{and_left, and_right}
+use Rattle.basics.specs.Arrays.{at}
+use Rattle.basics.specs.Loops.{every_same}
 use Rattle.state.specs.State.{most_jobs}
-use Rattle.state.specs.Holders.{carried_small}
-use Rattle.weights.specs.Parts.{locks_state}
-use Rattle.one_holder.specs.OneHolder.{holder_key_at}
-use Rattle.rule.specs.Granting.{passes_below, wakes, wakeable}
-use Rattle.rule.specs.Parts.{waits_state}
-use Rattle.rule.specs.WakeLaws.{all_stopped, found_next, found_none}
-use Rattle.rule.proofs.Searching.{LetBy, all_stopped_lem, let_none, let_other, let_more, pass_stopped, found, none_woken, none_left}
+use Rattle.rule.specs.Granting.{wakeable}
+use Rattle.rule.proofs.Searching.{none_woken, none_above}
 use borrow.Author.Rules.{rules}
 use Rattle.rule.proofs.wakeable.Goals as goal
 
@@ -27,64 +21,12 @@ returns-then-none_waits c =
     let a = c.args in
     none_woken a.counts a.may_read.now a.may_write.now a.holder a.readers.now a.writers.now a.certified.now a.request.now c.requires.1 c.requires.0 (every_same most_jobs (λ (k : ℕ). eqb (at a.request.now k) 0) (λ (k : ℕ). eqb (at a.request.now (0 + k)) 0) (λ k l h. ap (λ (n : ℕ). eqb (at a.request.now n) 0) (sym (zero-add k))) ∙ sym c.none_waits.ensures ∙ c.if-none_waits.true)
 
-pub locked_by-locked-requires : goal.locked_by-locked-requires
-locked_by-locked-requires c = (let H = c.requires.1 in (H.few, omega (arith, carried_small _ H)))
-
-pub search-init : goal.search-init
-unfolding first_nonzero
-search-init c = (omega arith, refl)
-
-pub loop-done-init : goal.loop-done-init
-loop-done-init c =
-    let a = c.args in
-    let next = (found_next a.request.now c.search.rank a.counts.jobs c.next_waiting-rank.result c.next_waiting-rank.ensures c.if-rank-eq0.false) in (
-      refl,
-      subst (LetBy (holder_key_at (locks_state a.counts a.may_read.now a.may_write.now a.readers.now a.writers.now a.certified.now) a.holder) c.locked_by-locked.result.objects a.holder c.locked_by-locked.result.count c.next_waiting-rank.result) (sym c.not_counting-done.ensures)
-          (let_none (holder_key_at (locks_state a.counts a.may_read.now a.may_write.now a.readers.now a.writers.now a.certified.now) a.holder) c.locked_by-locked.result.objects a.holder c.locked_by-locked.result.count c.next_waiting-rank.result (omega (arith, next.1, c.requires.0))),
-    )
-
-pub own_key_at-key-requires : goal.own_key_at-key-requires
-own_key_at-key-requires c =
-    let w = c.locked_by-locked.ensures.locks.inside (c.loop-done.done + 1) (omega arith) (omega (arith, c.loop-done-test.true)) in
-    let H = c.requires.1 in
-    let here = at_next c.locked_by-locked.result.objects c.loop-done.done in
-    (omega (arith, here, w.0), omega (arith, here, w.1, H.few), c.locked_by-locked.ensures.rank (omega (arith, c.loop-done-test.true)), carried_small _ H)
-
-pub search-preserved : goal.search-preserved
-search-preserved c =
-    let a = c.args in
-    let list = c.locked_by-locked.result.objects in
-    let w = c.next_waiting-rank.result in
-    let next = (found_next a.request.now c.search.rank a.counts.jobs c.next_waiting-rank.result c.next_waiting-rank.ensures c.if-rank-eq0.false) in
-    let key = c.own_key_at-key.ensures ∙ ap (holder_key_at (locks_state a.counts a.may_read.now a.may_write.now a.readers.now a.writers.now a.certified.now) a.holder) (sym (at_next list c.loop-done.done)) in
-    let stops = ap₂ passes_below (sym c.loop-done.invariant.0) (sym key) ∙ sym c.passes.ensures ∙ c.if-not-passes.true in
-    let last = c.all_stopped-rank.ensures ∙ ap (λ (r : ℕ). all_stopped a.holder r a.counts.jobs) c.loop-done.invariant.0 in (
-      omega (arith, last, all_stopped_lem a.holder w a.counts.jobs next.1),
-      ap (λ (n : ℕ). first_nonzero n (wakes (waits_state a.counts a.may_read.now a.may_write.now a.readers.now a.writers.now a.certified.now a.request.now))) last
-          ∙ pass_stopped a.counts a.may_read.now a.may_write.now a.holder a.readers.now a.writers.now a.certified.now a.request.now c.requires.1 c.locked_by-locked.result.objects c.locked_by-locked.result.count c.locked_by-locked.ensures c.search.rank w c.requires.0 c.search.invariant.1 next (c.loop-done.done + 1) (let_other c.loop-done.invariant.1 c.loop-done-test.true) (omega arith) (omega (arith, c.loop-done-test.true)) stops,
-    )
-
-pub loop-done-preserved : goal.loop-done-preserved
-loop-done-preserved c =
-    let a = c.args in
-    let list = c.locked_by-locked.result.objects in
-    let w = c.next_waiting-rank.result in
-    let key = c.own_key_at-key.ensures ∙ ap (holder_key_at (locks_state a.counts a.may_read.now a.may_write.now a.readers.now a.writers.now a.certified.now) a.holder) (sym (at_next list c.loop-done.done)) in
-    let passed = ap₂ passes_below (sym c.loop-done.invariant.0) (sym key) ∙ sym c.passes.ensures ∙ c.if-not-passes.false in
-    (c.loop-done.invariant.0, let_more (holder_key_at (locks_state a.counts a.may_read.now a.may_write.now a.readers.now a.writers.now a.certified.now) a.holder) list a.holder c.locked_by-locked.result.count w c.loop-done.done c.loop-done.invariant.1 c.loop-done-test.true passed)
-
-pub returns-then-rank-eq0 : goal.returns-then-rank-eq0
+pub returns-then-holder-first : goal.returns-then-holder-first
 unfolding wakeable
-returns-then-rank-eq0 c =
+returns-then-holder-first c =
     let a = c.args in
-    none_left a.counts a.may_read.now a.may_write.now a.holder a.readers.now a.writers.now a.certified.now a.request.now c.requires.1 c.search.rank c.search.invariant.1 (found_none a.request.now c.search.rank a.counts.jobs c.next_waiting-rank.result c.next_waiting-rank.ensures c.if-rank-eq0.true)
-
-pub returns-after-loop-done : goal.returns-after-loop-done
-unfolding wakeable
-returns-after-loop-done c =
-    let a = c.args in
-    let w = c.next_waiting-rank.result in
-    let next = (found_next a.request.now c.search.rank a.counts.jobs c.next_waiting-rank.result c.next_waiting-rank.ensures c.if-rank-eq0.false) in
-    let all : c.loop-done.done ≡ c.locked_by-locked.result.count = omega (arith, c.loop-done.invariant.1.few, c.loop-done-test.false) in
-    c.loop-done.invariant.0 ∙ found a.counts a.may_read.now a.may_write.now a.holder a.readers.now a.writers.now a.certified.now a.request.now c.requires.1 c.locked_by-locked.result.objects c.locked_by-locked.result.count c.locked_by-locked.ensures c.search.rank w c.requires.0 c.search.invariant.1 next
-    (subst (LetBy (holder_key_at (locks_state a.counts a.may_read.now a.may_write.now a.readers.now a.writers.now a.certified.now) a.holder) c.locked_by-locked.result.objects a.holder c.locked_by-locked.result.count w) all c.loop-done.invariant.1)
+    let pre = c.requires in
+    let first = c.next_waiting-first.result in
+    none_above a.counts a.may_read.now a.may_write.now a.holder a.readers.now a.writers.now a.certified.now a.request.now pre.1 pre.0 first c.next_waiting-first.ensures
+    (eqb-false a.holder 0 (not-true (eqb a.holder 0) (and_left (not (eqb a.holder 0)) (ltb a.holder first) c.if-holder-first.true)))
+    (ltb-true a.holder first (and_right (not (eqb a.holder 0)) (ltb a.holder first) c.if-holder-first.true))

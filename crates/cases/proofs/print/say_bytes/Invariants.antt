@@ -1,6 +1,11 @@
--- It ends because the bytes that are left fall. Assumes nothing.
-use Rattle.std.proofs.Common.{◌-◌, length}
+-- `cases::print::say_bytes` is safe and ends: the measure is what is left of the bytes. Assumes nothing.
+use Prim.Native.Nat.{◌-◌}
+use native.Mathlib.Omega.{arith}
+use lib.ListN.{length}
 use Rattle.cases.proofs.print.say_bytes.Given as goal
+
+abbrev pub invariant-loop-i : goal.invariant-loop-i
+invariant-loop-i l = Unit {0}
 
 abbrev pub decreases-loop-i : goal.decreases-loop-i
 decreases-loop-i l = length l.bytes - l.i

@@ -1,9 +1,14 @@
--- The loop's invariant: the index lies in the buffer, and in the line. It ends because the characters that are left fall. Assumes nothing.
-use Rattle.std.proofs.Common.{◌-◌, ◌≤◌, length}
+-- `cases::text::read_numbers` meets its contract. The invariant: the buffer keeps its length, and `i` is at most that and the line's length.
+-- The measure is what is left of the line. Assumes nothing.
+use Prim.Native.Nat.{◌≤◌, ◌-◌}
+use mathlib.Core.Path.{◌≡◌}
+use native.Mathlib.Omega.{arith}
+use lib.ListN.{length, length-set}
+use Rattle.io.proofs.Counting.{prefix_len_of_le}
 use Rattle.cases.proofs.text.read_numbers.Given as goal
 
 abbrev pub invariant-loop-i : goal.invariant-loop-i
-invariant-loop-i l = (l.i ≤ length l.buffer) × (l.i ≤ length l.line)
+invariant-loop-i l = (length l.buffer ≡ length l.initial.buffer) × (l.i ≤ length l.buffer) × (l.i ≤ length l.line)
 
 abbrev pub decreases-loop-i : goal.decreases-loop-i
 decreases-loop-i l = length l.line - l.i

@@ -1,25 +1,22 @@
--- `rule::wakeable` meets its contract. The outer loop's invariant: no rank counted so far waits with a request that passes. The inner loop's: the
+-- `rule::search` meets its contract. The outer loop's invariant: no rank counted so far waits with a request that passes. The inner loop's: the
 -- rank is the holder, or more urgent than every lock of the holder that is passed (LetBy). A lock that stops the rank stops whoever is less urgent, but for the
 -- holder, which is tried next; where no lock is left the rank is the first that wakes. The numbers of ranks and of locks left fall.
 -- Assumes nothing.
 use mathlib.Core.Path.{◌≡◌, refl, sym, subst, ap, ap₂, ◌∙◌}
 use Prim.Native.Nat.{ℕ, ◌+◌, ◌-◌, ◌≤◌}
-use native.Mathlib.Nat.{zero-add}
 use native.Mathlib.Omega.{arith}
-use lib.Dec.{eqb}
 use borrow.Author.Tests.{not-true, not-false}
-use Rattle.basics.specs.Arrays.{at, at_next}
-use Rattle.basics.specs.Loops.{every_same, first_nonzero}
-use Rattle.state.specs.State.{most_jobs}
+use Rattle.basics.specs.Arrays.{at_next}
+use Rattle.basics.specs.Loops.{first_nonzero}
 use Rattle.state.specs.Holders.{carried_small}
 use Rattle.weights.specs.Parts.{locks_state}
-use Rattle.one_holder.specs.OneHolder.{holder_key_at}
-use Rattle.rule.specs.Granting.{passes_below, wakes, wakeable}
+use Rattle.one_holder.specs.OneHolder.{holder_key_at, passes_lock}
+use Rattle.rule.specs.Granting.{wakes, wakeable}
 use Rattle.rule.specs.Parts.{waits_state}
 use Rattle.rule.specs.WakeLaws.{all_stopped, found_next, found_none}
-use Rattle.rule.proofs.Searching.{LetBy, all_stopped_lem, let_none, let_other, let_more, pass_stopped, found, none_woken, none_left}
+use Rattle.rule.proofs.Searching.{LetBy, passes_gathered, all_stopped_lem, let_none, let_other, let_more, pass_stopped, found, none_left}
 use borrow.Author.Rules.{rules}
-use Rattle.rule.proofs.wakeable.Given as goal
+use Rattle.rule.proofs.search.Given as goal
 
 abbrev pub invariant-loop-done : goal.invariant-loop-done
 invariant-loop-done l =
