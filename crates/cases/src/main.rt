@@ -1,5 +1,6 @@
 // Runs the cases that standard input lists: a line for each, with its name, its steps and what came out.
 #![tactic(auto)]
+
 mod print;
 mod steps;
 mod text;

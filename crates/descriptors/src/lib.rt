@@ -1,7 +1,11 @@
-// Bytes read from a file descriptor, behind those that are held.
+// Bytes read from a reader, behind those that are held.
 #![tactic(auto)]
+
 ghost use Rattle.std.specs.Prelude.{◌≡◌, ◌+◌, ◌<◌, min, max, length};
 ghost use Rattle.descriptors.specs.Reading.{part_of, Came};
+
+use std::io;
+use std::io::Read;
 
 // What a read gave: it failed, the input has ended, or so many bytes came.
 #[derive(Clone, Copy)]
@@ -11,17 +15,15 @@ pub enum Part {
     Bytes(usize),
 }
 
-// What `read` gave, by its answer and by how many bytes came.
-fn part_of(got: isize, count: usize) -> Part
-    ensures { result ≡ part_of got count }
+// What a read gave, by its answer.
+fn part_of(got: io::Result<usize>) -> Part
+    ensures { result ≡ part_of got }
 {
-    if got < 0 {
-        return Part::Failed;
+    match got {
+        Err(_) => Part::Failed,
+        Ok(0) => Part::End,
+        Ok(count) => Part::Bytes(count),
     }
-    if count == 0 {
-        return Part::End;
-    }
-    Part::Bytes(count)
 }
 
 // Where the next part ends in a buffer of so many bytes: at most so many behind those that are held, and at least one.
@@ -39,12 +41,11 @@ fn part_end(held: usize, most: usize, size: usize) -> usize
 }
 
 // Reads what there is, at most so many bytes, behind those that are held.
-pub fn read_part(from: i32, most: usize, input: &mut [u8], held: usize) -> Part
+pub fn read_part<R: Read>(from: &mut R, most: usize, input: &mut [u8], held: usize) -> Part
     requires { held < length input.old }
     ensures { Came result held input.old input.new }
 {
     let end = part_end(held, most, input.len());
-    let got = libc::read(from, &mut input[held..end]);
-    let count = io::count(got, &input[held..end]);
-    part_of(got, count)
+    let got = from.read(&mut input[held..end]);
+    part_of(got)
 }

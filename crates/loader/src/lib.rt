@@ -1,17 +1,26 @@
-// Writes a test load: a seed and a count from two texts, the table from one file descriptor, the events to another, part by part.
+// Writes a test load: a seed and a count from two texts, the table from a reader, the events to a file descriptor, part by part.
 #![tactic(auto)]
-ghost use Rattle.std.specs.Prelude.{◌≡◌, true, ◌*◌, ◌≤◌, length};
+
+ghost use Rattle.std.specs.Prelude.{◌≡◌, true, ◌*◌, ◌≤◌, length, IfSome};
 ghost use Rattle.state.specs.WellFormed.{well_formed};
 ghost use Rattle.table_bytes.specs.Decided.{longest_table};
 ghost use Rattle.arguments.specs.Numbers.{number_in};
+ghost use Rattle.loader.specs.declared.Ended.{Ended};
 ghost use Rattle.loader.specs.Loading.{part_events, most_seed, most_count, end_of, ReadBytes, Parts, Loads, LoadsTexts, LoadsArguments};
 
 use arguments::{Number, number_in};
 use basics::smaller;
 use descriptors::{Part, read_part};
-use libc::{STDERR_FILENO, STDIN_FILENO, STDOUT_FILENO};
 use state::State;
+use std::env::{Env, FillError};
+use std::io::Read;
 use table_bytes::table_refusal;
+
+// The descriptor of standard output.
+const STANDARD_OUTPUT: i32 = 1;
+
+// The descriptor of standard error.
+const STANDARD_ERROR: i32 = 2;
 
 // Room for the table: more than the longest has.
 pub type TableBuffer = [u8; 32768];
@@ -65,7 +74,7 @@ fn is_failure(part: Part) -> bool {
 }
 
 // Reads, at most so many bytes at a time, until the bytes decide whether there is a table at their front, or the input ends.
-fn read_bytes(from: i32, most: usize, bytes: &mut [u8]) -> Input
+fn read_bytes<R: Read>(from: &mut R, most: usize, bytes: &mut [u8]) -> Input
     requires { longest_table ≤ length bytes.old }
     ensures { ReadBytes result bytes.old bytes.new }
 {
@@ -137,8 +146,8 @@ fn none_made(ended: Ended, held: usize, seed: u32) -> Loaded
 }
 
 // Reads the table and writes so many events from the seed.
-fn load(
-    from: i32,
+fn load<R: Read>(
+    from: &mut R,
     to: i32,
     most: usize,
     seed: u32,
@@ -169,10 +178,10 @@ fn load(
 }
 
 // The same with the seed and the count from two texts.
-fn load_texts(
+fn load_texts<R: Read>(
     seed_text: &[u8],
     count_text: &[u8],
-    from: i32,
+    from: &mut R,
     to: i32,
     most: usize,
     table: &mut [u8],
@@ -231,10 +240,10 @@ fn report(errors: i32, ended: Ended) {
 // one), to `to`, part by part. Where the texts, the table, a read or a write stop it, it says so in one line on `errors`; no event is written then,
 // but for those before a write that failed. The bytes that came stand at the front of the table buffer, the parts in the event buffer, each over the
 // last.
-pub fn write_load(
+pub fn write_load<R: Read>(
     seed_text: &[u8],
     count_text: &[u8],
-    from: i32,
+    from: &mut R,
     to: i32,
     errors: i32,
     most: usize,
@@ -250,25 +259,54 @@ pub fn write_load(
     loaded
 }
 
+// How many bytes of the buffer have the argument with this number, none of them where it is longer than the buffer; nothing where there is no such
+// argument.
+fn argument(rt: &impl Env, i: usize, text: &mut [u8]) -> Option<usize>
+    ensures { IfSome result (λ n. n ≤ length text.new) }
+{
+    match rt.arg(i, text) {
+        Ok(n) => Some(n),
+        Err(FillError::TooLong) => Some(0),
+        Err(FillError::NotPresent) => None,
+    }
+}
+
+// What is said and handed back where there are not two arguments.
+fn not_two() -> Loaded
+    ensures { result ≡ record { ended = Ended.NotTwo; held = 0; made = 0; seed = 0 } }
+{
+    report(STANDARD_ERROR, Ended::NotTwo);
+    none_made(Ended::NotTwo, 0, 0)
+}
+
 // The load that the program's two arguments ask for, on the table of standard input, written to standard output; what stops it is said on
 // standard error.
-pub fn write_standard_load(table: &mut TableBuffer, events: &mut EventBuffer) -> Loaded
+pub fn write_standard_load(
+    rt: &(impl std::io::Input + Env),
+    table: &mut TableBuffer,
+    events: &mut EventBuffer,
+) -> Loaded
     ensures { LoadsArguments result table.old table.new events.old events.new }
 {
-    if os::arg_count() != 3 {
-        report(STDERR_FILENO, Ended::NotTwo);
-        return none_made(Ended::NotTwo, 0, 0);
-    }
     let mut seed_text = io::buffer();
     let mut count_text = io::buffer();
-    let seed_length = os::arg(1, &mut seed_text);
-    let count_length = os::arg(2, &mut count_text);
+    let mut another = [0; 1];
+    let Some(seed_length) = argument(rt, 1, &mut seed_text) else {
+        return not_two();
+    };
+    let Some(count_length) = argument(rt, 2, &mut count_text) else {
+        return not_two();
+    };
+    if let Some(_) = argument(rt, 3, &mut another) {
+        return not_two();
+    }
+    let mut from = rt.reader();
     write_load(
         &seed_text[..seed_length],
         &count_text[..count_length],
-        STDIN_FILENO,
-        STDOUT_FILENO,
-        STDERR_FILENO,
+        &mut from,
+        STANDARD_OUTPUT,
+        STANDARD_ERROR,
         32768,
         table,
         events,

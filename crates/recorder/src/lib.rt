@@ -1,5 +1,6 @@
-// Writes the bench record of what comes on one file descriptor to another, part by part, as it comes.
+// Writes the bench record of what comes from a reader to a file descriptor, part by part, as it comes.
 #![tactic(auto)]
+
 ghost use Rattle.std.specs.Prelude.{◌≡◌, ◌+◌, ◌*◌, ◌-◌, ◌^◌, ◌≤◌, ◌<◌, length, take, drop};
 ghost use Rattle.table_bytes.specs.Decided.{longest_table};
 ghost use Rattle.decimals.specs.Laid.{Laid};
@@ -7,8 +8,14 @@ ghost use Rattle.stream.specs.Parts.{feed, Advances};
 ghost use Rattle.recorder.specs.Recording.{Feeds, AfterSomeParts, failure_of, MayEndWithoutPart, Records};
 
 use descriptors::{Part, read_part};
-use libc::{STDERR_FILENO, STDIN_FILENO, STDOUT_FILENO};
+use std::io::{Input, Read};
 use stream::{Advanced, Bench};
+
+// The descriptor of standard output.
+const STANDARD_OUTPUT: i32 = 1;
+
+// The descriptor of standard error.
+const STANDARD_ERROR: i32 = 2;
 
 // Room for the bytes that are held and a part: more than the longest table has.
 pub type InputBuffer = [u8; 32768];
@@ -134,7 +141,7 @@ fn hand_back(ended: Ended, received: u64, bench: Bench, held: usize) -> Recorded
 }
 
 // Reads part after part and writes the lines of each as it comes. A proved loop has to end: this one does after 2^64 - 2^16 bytes.
-fn run(from: i32, to: i32, most: usize, input: &mut [u8], lines: &mut [u8]) -> Recorded
+fn run<R: Read>(from: &mut R, to: i32, most: usize, input: &mut [u8], lines: &mut [u8]) -> Recorded
     requires { (longest_table ≤ length input.old) × (length input.old < 2 ^ 16) × (90 + 15 * length input.old ≤ length lines.old) }
     ensures { Records result input.new lines.old lines.new }
 {
@@ -188,8 +195,8 @@ fn report(errors: i32, ended: Ended) {
 // Writes the record of what comes on `from`, at most so many bytes at a time (and at least one), to `to`: after each read the lines that
 // it decides, behind the last the last line. Where a read or a write fails it stops at once and says so on `errors`. Hands back the bench and
 // the bytes held, at the front of the input buffer, behind the parts that came; the record buffer has the lines of each part over the last.
-pub fn write_record(
-    from: i32,
+pub fn write_record<R: Read>(
+    from: &mut R,
     to: i32,
     errors: i32,
     most: usize,
@@ -205,13 +212,18 @@ pub fn write_record(
 }
 
 // The record of standard input, written to standard output; where a read or a write fails it says so on standard error.
-pub fn write_standard_record(input: &mut InputBuffer, lines: &mut RecordBuffer) -> Recorded
+pub fn write_standard_record(
+    rt: &impl Input,
+    input: &mut InputBuffer,
+    lines: &mut RecordBuffer,
+) -> Recorded
     ensures { Records result input.new lines.old lines.new }
 {
+    let mut from = rt.reader();
     write_record(
-        STDIN_FILENO,
-        STDOUT_FILENO,
-        STDERR_FILENO,
+        &mut from,
+        STANDARD_OUTPUT,
+        STANDARD_ERROR,
         32768,
         input,
         lines,
