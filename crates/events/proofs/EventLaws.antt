@@ -21,7 +21,7 @@ use Rattle.state.proofs.Releasing.{release_holder}
 use Rattle.weights.specs.Keys.{Weigh, key_weight, key_holder, key_object, others_key, object_key, lowest_key_by, lowest_key}
 use Rattle.one_holder.specs.OneHolder.{deciding_key, Decides}
 use Rattle.one_holder.specs.OneHolderLaws.{deciding}
-use Rattle.rule.specs.Conflicts.{above_others}
+use Rattle.rule.proofs.ConflictLaws.{above_others}
 use Rattle.weights.specs.KeyLaws.{key_at}
 use Rattle.rule.specs.Granting.{passes_below, reason, wakes, wakeable}
 use Rattle.rule.specs.WakeLaws.{FoundAt, wakeable_found, wakes_is}

@@ -14,7 +14,7 @@ use Rattle.state.specs.Keeping.{activate_keeps, await_keeps, fall_asleep_keeps, 
 use Rattle.state.proofs.Releasing.{release_keeps}
 use Rattle.rule.specs.Granting.{passes, wakes, wakeable}
 use Rattle.state.specs.Holders.{holder_facts}
-use Rattle.rule.specs.Conflicts.{above_others, no_conflict}
+use Rattle.rule.proofs.ConflictLaws.{above_others, no_conflict}
 use Rattle.rule.specs.WakeLaws.{FoundAt, Found, wakeable_found, wakes_is}
 use Rattle.refusals.specs.Refusals.{event_refusal}
 use Rattle.refusals.specs.AcceptedEvent.{AcceptedEvent, event_not_refused, not_waiting, read_facts, write_facts, certify_facts}

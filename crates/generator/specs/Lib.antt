@@ -1,4 +1,3 @@
--- A test load from a seed: its definition, its laws, and the theorems about it.
+-- A test load from a seed: its definition, and what two parts of one are.
 pub mod Load
-pub mod LoadLaws
 pub mod LoadTheorems

@@ -10,8 +10,8 @@ use Rattle.state.specs.WellFormed.{well_formed}
 use Rattle.decimals.specs.Laid.{at_front, front_length}
 use Rattle.generator.specs.declared.Made.{Made}
 use Rattle.generator.specs.Load.{seed_after, load, make_events, events_made}
-use Rattle.generator.specs.LoadLaws.{load_length, seed_join, load_join}
-use Rattle.generator.specs.LoadLaws.{made as made_events}
+use Rattle.generator.proofs.LoadLaws.{load_length, seed_join, load_join}
+use Rattle.generator.proofs.LoadLaws.{made as made_events}
 use Rattle.loader.specs.Loading.{part_events, part, overlaid, AfterParts}
 
 pub after_none : (c : Counts) (seed count : ℕ) (buffer : List ℕ) → AfterParts c seed count 0 seed buffer buffer

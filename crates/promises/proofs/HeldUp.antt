@@ -13,7 +13,8 @@ use Rattle.state.specs.Weights.{write_ceiling_of, weight}
 use Rattle.state.specs.WeightLaws.{ceiling_in}
 use Rattle.weights.specs.Keys.{no_weight, key_weight, key_holder, key_object, lowest_key}
 use Rattle.rule.specs.Granting.{passes, named_holder_of, named_object_of}
-use Rattle.rule.specs.GrantingTheorems.{stopping_holder, stopping_object, names_nobody}
+use Rattle.rule.specs.GrantingTheorems.{stopping_holder, stopping_object}
+use Rattle.rule.proofs.GrantingTheorems.{names_nobody}
 use Rattle.events.specs.Answers.{Paper, paper}
 use Rattle.refusals.specs.Refusals.{is_request}
 use Rattle.manager.specs.Step.{step}

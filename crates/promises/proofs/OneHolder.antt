@@ -16,7 +16,8 @@ use Rattle.state.specs.WellFormedFacts.{facts, facts_well_formed, waiting_rank}
 use Rattle.state.specs.Holders.{HolderFacts, holder_facts, carried_holds, carried_small, own_weight, others_weigh}
 use Rattle.rule.specs.Granting.{passes}
 use Rattle.rule.specs.GrantingTheorems.{HeldByAnother, MoreUrgentThanOthers, ComesFirst, by_weight, by_rank, by_object, FirstOfOthers}
-use Rattle.rule.specs.GrantingTheorems.{stopping_holder, stopping_object, passes_iff, stopping_lock}
+use Rattle.rule.specs.GrantingTheorems.{stopping_holder, stopping_object}
+use Rattle.rule.proofs.GrantingTheorems.{passes_iff, stopping_lock}
 use Rattle.rule.specs.Decided.{holder_grants}
 use Rattle.events.specs.Answers.{paper}
 use Rattle.refusals.specs.Refusals.{is_request}

@@ -9,7 +9,8 @@ use Rattle.state.specs.WellFormed.{well_formed}
 use Rattle.state.specs.Facts.{Sized}
 use Rattle.state.specs.WellFormedFacts.{facts}
 use Rattle.rule.specs.Granting.{passes}
-use Rattle.rule.specs.GrantingTheorems.{MoreUrgentThanOthers, FirstOfOthers, stopping_holder, stopping_object, passes_iff, stopping_lock}
+use Rattle.rule.specs.GrantingTheorems.{MoreUrgentThanOthers, FirstOfOthers, stopping_holder, stopping_object}
+use Rattle.rule.proofs.GrantingTheorems.{passes_iff, stopping_lock}
 use Rattle.events.specs.Answers.{Paper, paper}
 use Rattle.events.specs.Events.{request_meeting, request, accepted}
 use Rattle.refusals.specs.Refusals.{is_request, mode_of, refusal}

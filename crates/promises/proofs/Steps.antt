@@ -21,7 +21,7 @@ use Rattle.state.specs.Keeping.{end_keeps}
 use Rattle.state.proofs.Releasing.{release_none, release_same, release_locks, release_keeps}
 use Rattle.weights.specs.Keys.{no_weight, key_holder, key_object, lowest_key}
 use Rattle.rule.specs.Granting.{passes, reason, wakeable}
-use Rattle.rule.specs.Conflicts.{no_conflict}
+use Rattle.rule.proofs.ConflictLaws.{no_conflict}
 use Rattle.events.specs.declared.Outcome.{Outcome}
 use Rattle.events.specs.declared.Answer.TheVariants.{Granted, Waits, Refused}
 use Rattle.events.specs.Answers.{Paper, paper}

@@ -15,7 +15,7 @@ use Rattle.state.specs.Facts.{RequestFacts, Facts}
 use Rattle.state.specs.WellFormedFacts.{waiting_rank}
 use Rattle.state.specs.Changes.{grant_request, grant_same, grant_locks}
 use Rattle.rule.specs.Granting.{passes, wakes, wakeable}
-use Rattle.rule.specs.Conflicts.{no_conflict}
+use Rattle.rule.proofs.ConflictLaws.{no_conflict}
 use Rattle.rule.specs.WakeLaws.{FoundAt, wakes_is}
 use Rattle.events.specs.Events.{woken}
 use Rattle.events.specs.Keeping.{by_search}

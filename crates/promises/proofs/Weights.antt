@@ -13,7 +13,7 @@ use Rattle.state.specs.WeightLaws.{weight_small}
 use Rattle.weights.specs.Keys.{lock_key, no_weight, no_key, key_weight, lowest_key}
 use Rattle.weights.specs.KeyLaws.{KeyOfOther, key_below, key_at}
 use Rattle.rule.specs.Granting.{passes}
-use Rattle.rule.specs.GrantingTheorems.{others_lock}
+use Rattle.rule.proofs.GrantingTheorems.{others_lock}
 use Rattle.theory.specs.Machine.{Blocked, Passes}
 use Rattle.theory.specs.Key.{Lowest}
 use Rattle.theory.proofs.KeyLaws.{key_passes, key_blocked}

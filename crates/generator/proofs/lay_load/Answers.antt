@@ -3,7 +3,7 @@
 use Rattle.std.proofs.Common.{◌≡◌, ℕ, ◌+◌, ◌-◌, ◌*◌, ◌≤◌, ◌++◌, sym, refl, ap, ◌∙◌, arith, rules}
 use Rattle.decimals.specs.Laid.{Laid, at_front, laid_then, laid_is, laid_length, laid_at_front}
 use Rattle.generator.specs.Load.{step, event_from, seed_after, load}
-use Rattle.generator.specs.LoadLaws.{load_length, seed_more, load_more}
+use Rattle.generator.proofs.LoadLaws.{load_length, seed_more, load_more}
 use Rattle.generator.proofs.lay_load.Goals as goal
 
 pub loop-made-init : goal.loop-made-init

@@ -8,7 +8,7 @@ use Rattle.state.specs.State.{state_of}
 use Rattle.state.specs.WellFormed.{well_formed}
 use Rattle.state.specs.Clauses.{clauses, counts_within_lem}
 use Rattle.generator.specs.declared.Made.{Made}
-use Rattle.generator.specs.LoadLaws.{refused_by_8, refused_by_23, made}
+use Rattle.generator.proofs.LoadLaws.{refused_by_8, refused_by_23, made}
 use Rattle.generator.proofs.make_load.Goals as goal
 use Rattle.generator.proofs.make_load.Goals.{Start}
 

@@ -14,7 +14,7 @@ use Rattle.state.specs.WeightLaws.{read_writer, write_any, write_writer}
 use Rattle.weights.specs.Keys.{key_weight, lowest_key}
 use Rattle.weights.specs.KeyLaws.{key_below}
 use Rattle.rule.specs.Granting.{passes}
-use Rattle.rule.specs.GrantingTheorems.{passes_more_urgent}
+use Rattle.rule.proofs.GrantingTheorems.{passes_more_urgent}
 
 -- who passes is more urgent than every lock of others
 pub above_others : (s : State) → HolderFacts s → (j : ℕ) → passes s j ≡ true → AboveOthers s j
