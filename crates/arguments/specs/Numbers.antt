@@ -1,9 +1,9 @@
 -- What a text says as a decimal number; then the laws of its digits, one after the other.
 -- Assumes nothing.
-use Rattle.std.specs.Prelude.{ℕ, zero, suc, ◌+◌, ◌*◌, ◌-◌, ◌≤◌, ◌<◌, ◌≡◌, refl, ◌⊎◌, Bool, true, false, ◌&&◌, List, leb, ltb, length}
+use Rattle.std.specs.Prelude.{ℕ, zero, suc, ◌+◌, ◌*◌, ◌-◌, ◌≤◌, ◌<◌, ◌≡◌, refl, ◌⊎◌, Bool, true, false, ◌&&◌, List, leb, ltb, length, if◌then◌else◌}
 use Rattle.std.proofs.Common.{ap, inl, inr, eq-or-lt_of_le, add-one, arith, leb-true, leb-false, le-leb}
 use Rattle.std.proofs.lemmas.Bool.{lt-leb}
-use Rattle.basics.specs.Choice.{if◌then◌else◌, between, and_right}
+use Rattle.basics.specs.Choice.{between, and_right}
 use Rattle.basics.specs.Loops.{every, every-at}
 use Rattle.basics.specs.Arrays.{at}
 use Rattle.arguments.specs.declared.Number.{Number}

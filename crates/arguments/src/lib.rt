@@ -1,5 +1,6 @@
 // Numbers in a program's arguments, in decimal.
 #![tactic(auto)]
+
 ghost use Rattle.std.specs.Prelude.{◌≡◌, true, length};
 ghost use Rattle.arguments.specs.Numbers as N;
 

@@ -3,12 +3,8 @@
 use Rattle.std.specs.Prelude.{◌≡◌, refl, Bool, true, false, not, ◌&&◌, ◌||◌, ℕ, zero, suc, ◌≤◌, ◌<◌, leb}
 use Rattle.std.proofs.Common.{ap₂, arith, leb-true, leb-false, le-leb}
 
-infixr 5 if◌then◌else◌
 infixr 5 ◌if◌else◌
 infixr 5 ◌or_else◌
-abbrev pub if◌then◌else◌ {ℓ} : {A : Type ℓ} → Bool → A → A → A
-if◌then◌else◌ true a b = a
-if◌then◌else◌ false a b = b
 
 -- `8 if p else 9 if q else 0`: a refusal by its first condition that holds, 0 where none does
 abbrev pub ◌if◌else◌ : ℕ → Bool → ℕ → ℕ

@@ -1,5 +1,6 @@
 // Changes of a state's parts, in place: a lock given, locks given up, objects certified no more, a request stored.
 #![tactic(auto)]
+
 ghost use Rattle.std.specs.Prelude.{◌≡◌, ◌+◌, ◌≤◌};
 ghost use Rattle.basics.specs.Arrays.{at, put};
 ghost use Rattle.ranks.specs.Ranks as R;

@@ -1,8 +1,7 @@
 -- Decimal numbers as bytes (01, "The bench record"), and their laws: the digits one by one and by thousands, and how many there are.
 -- Assumes nothing.
-use Rattle.std.specs.Prelude.{ℕ, zero, suc, ◌+◌, ◌*◌, ◌/◌, ◌%◌, ◌^◌, ◌≤◌, ◌<◌, ◌≡◌, refl, Bool, true, false, List, [], ◌∷◌, ◌++◌, ltb, length}
+use Rattle.std.specs.Prelude.{ℕ, zero, suc, ◌+◌, ◌*◌, ◌/◌, ◌%◌, ◌^◌, ◌≤◌, ◌<◌, ◌≡◌, refl, Bool, true, false, List, [], ◌∷◌, ◌++◌, ltb, length, if◌then◌else◌}
 use Rattle.std.proofs.Common.{ap, ◌∙◌, append_assoc, pow-suc, arith, length-append, ltb-true, ltb-false, lt-ltb, le-ltb}
-use Rattle.basics.specs.Choice.{if◌then◌else◌}
 
 -- ---- "numbers in decimal without leading zeros"
 

@@ -1,9 +1,8 @@
 -- Lines of fields as bytes: fields one space apart and a line feed behind the last, and a field right-aligned in its width; then the laws of the latter.
 -- Assumes nothing.
-use Rattle.std.specs.Prelude.{ℕ, suc, ◌-◌, ◌/◌, ◌%◌, ◌≤◌, ◌<◌, ◌≡◌, refl, Bool, true, false, List, [], ◌∷◌, ◌++◌, eqb, ltb, length, replicate}
+use Rattle.std.specs.Prelude.{ℕ, suc, ◌-◌, ◌/◌, ◌%◌, ◌≤◌, ◌<◌, ◌≡◌, refl, Bool, true, false, List, [], ◌∷◌, ◌++◌, eqb, ltb, length, replicate, if◌then◌else◌}
 use Rattle.std.proofs.Common.{ap, ◌∙◌, arith, length-append, eq-eqb, ne_eqb, ltb-true, ltb-false}
 use Rattle.std.proofs.lemmas.List.{length-replicate}
-use Rattle.basics.specs.Choice.{if◌then◌else◌}
 use Rattle.decimals.specs.Decimal.{digit, decimal, decimal_one, decimal_two, decimal_three}
 
 -- ---- "Fields stand one space apart .. and every line ends with a line feed." (01, "The bench record"; 02, CR 2: "one space between fields")

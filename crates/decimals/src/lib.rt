@@ -1,5 +1,6 @@
 // Bytes and decimal numbers, laid into a buffer one behind the other: each function answers the index behind what it laid.
 #![tactic(auto)]
+
 ghost use Rattle.std.specs.Prelude.{◌≡◌, [], ◌∷◌, ◌+◌, ◌≤◌, ◌<◌, length};
 ghost use Rattle.decimals.specs.Decimal.{decimal, three_digits};
 ghost use Rattle.decimals.specs.Fields.{space, right_aligned, digit_or_space};

@@ -1,7 +1,7 @@
 -- What an event in a well-formed state does (01, "Jobs, objects, events": "Each kind has its own rule"): its answer and the next state.
 -- Assumes nothing.
-use Rattle.std.specs.Prelude.{ℕ, eqb}
-use Rattle.basics.specs.Choice.{if◌then◌else◌, between}
+use Rattle.std.specs.Prelude.{ℕ, eqb, if◌then◌else◌}
+use Rattle.basics.specs.Choice.{between}
 use Rattle.state.specs.declared.State.{State}
 use Rattle.state.specs.State.{requested_mode, requested_object, activate, await, grant, release, fall_asleep, awaken, end_run}
 use Rattle.weights.specs.Keys.{key_holder, key_object, lowest_key}

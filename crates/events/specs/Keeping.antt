@@ -1,11 +1,11 @@
 -- An event in a well-formed state leaves a well-formed state: first a request, then the search for a waiting job, then the rules of the kinds, then any event.
 -- Assumes nothing.
-use Rattle.std.specs.Prelude.{◌≡◌, Bool, ℕ, zero, suc, ◌≤◌}
+use Rattle.std.specs.Prelude.{◌≡◌, Bool, ℕ, zero, suc, ◌≤◌, if◌then◌else◌}
 use Rattle.std.proofs.Math.Path.{refl}
 use Rattle.std.proofs.Common.{sym, subst, inl, inr, arith, ne_eqb}
 use Rattle.std.proofs.Math.Bool.{true, false}
 use Rattle.std.proofs.lemmas.Bool.{not-false}
-use Rattle.basics.specs.Choice.{if◌then◌else◌, and_left, between_true}
+use Rattle.basics.specs.Choice.{and_left, between_true}
 use Rattle.state.specs.declared.State.{State}
 use Rattle.state.specs.State.{read, write, certify, is_active, is_sleeping, requested_mode, requested_object, await, grant, release, end_run}
 use Rattle.state.specs.Facts.{RequestFacts, Facts}

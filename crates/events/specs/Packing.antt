@@ -1,8 +1,8 @@
 -- An event's answer as one number of 32 bits, and taken apart again.
 -- Assumes nothing.
-use Rattle.std.specs.Prelude.{◌≡◌, [], ◌∷◌, ℕ, ◌+◌, ◌*◌, ◌/◌, ◌%◌, ◌<◌, eqb, get_or, take}
+use Rattle.std.specs.Prelude.{◌≡◌, [], ◌∷◌, ℕ, ◌+◌, ◌*◌, ◌/◌, ◌%◌, ◌<◌, eqb, get_or, take, if◌then◌else◌}
 use Rattle.std.proofs.Common.{arith}
-use Rattle.basics.specs.Choice.{if◌then◌else◌, between}
+use Rattle.basics.specs.Choice.{between}
 use Rattle.events.specs.declared.Answer.{Answer}
 use Rattle.events.specs.Answers.{Paper, paper}
 

@@ -1,5 +1,6 @@
 // Events in a well-formed state, on its parts, in place: one small function for each rule, with its refusals. And an answer packed into a number.
 #![tactic(auto)]
+
 ghost use Rattle.std.specs.Prelude.{◌≡◌, List, ℕ, ◌≤◌};
 ghost use Rattle.state.specs.State.{most_jobs, most_objects, certify, state_of};
 ghost use Rattle.state.specs.Holders.{HolderFacts, held_state};

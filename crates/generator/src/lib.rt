@@ -1,5 +1,6 @@
 // A test load from a seed: events made into a lent buffer, the same on every bench.
 #![tactic(auto)]
+
 ghost use Rattle.std.specs.Prelude.{◌≡◌, ◌+◌, ◌*◌, ◌%◌, ◌^◌, ◌≤◌, not, length};
 ghost use Rattle.basics.specs.Loops.{one_if};
 ghost use Rattle.state.specs.State.{state_of};

@@ -1,13 +1,13 @@
 -- Inherited ranks and the running job by the lock that each rank names: the array of the named locks, once made, answers for all jobs and processors.
 -- Then that these are the inherited ranks and the running job of the state with those named locks.
 -- Assumes nothing.
-use Rattle.std.specs.Prelude.{◌≡◌, refl, Bool, true, false, ◌&&◌, List, ℕ, ◌+◌, ◌*◌, ◌%◌, ◌≤◌}
+use Rattle.std.specs.Prelude.{◌≡◌, refl, Bool, true, false, ◌&&◌, List, ℕ, ◌+◌, ◌*◌, ◌%◌, ◌≤◌, if◌then◌else◌}
 use Rattle.std.proofs.Math.Path.{sym, ap, ap₂}
 use Rattle.std.proofs.Common.{◌∙◌, arith, ne_eqb}
 use Rattle.std.proofs.Math.Bool.{not}
 use Rattle.std.proofs.Math.Dec.{eqb}
 use Rattle.basics.specs.Arrays.{at, FilledTo}
-use Rattle.basics.specs.Choice.{if◌then◌else◌, inside_between}
+use Rattle.basics.specs.Choice.{inside_between}
 use Rattle.basics.specs.Loops.{least, least_same}
 use Rattle.ranks.specs.Ranks.{member, minus}
 use Rattle.ranks.specs.RankLaws.{member-minus}

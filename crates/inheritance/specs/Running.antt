@@ -1,7 +1,6 @@
 -- Inherited ranks, and the job that a processor runs (01, "Granting, naming, waking"; 02, CR 8).
 -- Assumes nothing.
-use Rattle.std.specs.Prelude.{ℕ, ◌+◌, ◌*◌, ◌%◌, Bool, not, ◌&&◌, eqb}
-use Rattle.basics.specs.Choice.{if◌then◌else◌}
+use Rattle.std.specs.Prelude.{ℕ, ◌+◌, ◌*◌, ◌%◌, Bool, not, ◌&&◌, eqb, if◌then◌else◌}
 use Rattle.basics.specs.Loops.{least}
 use Rattle.state.specs.declared.State.{State}
 use Rattle.state.specs.State.{processor_of_job, is_active, is_waiting, is_sleeping}

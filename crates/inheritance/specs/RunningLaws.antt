@@ -1,8 +1,7 @@
 -- The job that a processor runs is ready: an active job of the processor that is awake and isn't waiting, and of these the one with the least key.
 -- Assumes nothing.
-use Rattle.std.specs.Prelude.{◌≡◌, refl, Bool, true, false, ℕ, ◌+◌, ◌*◌, ◌≤◌}
+use Rattle.std.specs.Prelude.{◌≡◌, refl, Bool, true, false, ℕ, ◌+◌, ◌*◌, ◌≤◌, if◌then◌else◌}
 use Rattle.std.proofs.Common.{subst, inl, inr, arith}
-use Rattle.basics.specs.Choice.{if◌then◌else◌}
 use Rattle.basics.specs.Loops.{least, least_at}
 use Rattle.state.specs.declared.State.{State}
 use Rattle.state.specs.State.{most_jobs}

@@ -1,5 +1,6 @@
 // Inherited ranks, and the job that a processor runs. The lock that each rank names is worked out once and answers for all jobs and processors.
 #![tactic(auto)]
+
 ghost use Rattle.std.specs.Prelude.{◌≡◌, ◌≤◌, min};
 ghost use Rattle.state.specs.State.{most_jobs};
 ghost use Rattle.state.specs.Holders.{HolderFacts, held_state};

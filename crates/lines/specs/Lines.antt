@@ -1,7 +1,6 @@
 -- The lines of the bench record (01, "The bench record"), as bytes. The sentences in quotes are document 01's.
 -- Assumes nothing.
-use Rattle.std.specs.Prelude.{ℕ, ◌≤◌, ◌≡◌, List, [], ◌∷◌, map, length}
-use Rattle.basics.specs.Choice.{if◌then◌else◌}
+use Rattle.std.specs.Prelude.{ℕ, ◌≤◌, ◌≡◌, List, [], ◌∷◌, map, length, if◌then◌else◌}
 use Rattle.basics.specs.Arrays.{at}
 use Rattle.state.specs.declared.Counts.{Counts}
 use Rattle.decimals.specs.Decimal.{decimal}

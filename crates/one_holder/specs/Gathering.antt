@@ -64,10 +64,10 @@ module _ (readers writers : List ℕ) (h : ℕ) where
     held_put here i a b = elim (dec_le i count) [
       | yes l ↦ ap held_by (held_before i l) ∙ H i a l
       | no l ↦ (
-        let last : at (set list count v) (count + 1) ≡ v = ap (λ xs. at xs (count + 1)) (sym stored_behind) ∙ at-put_same list (count + 1) v (omega arith) (omega arith) in
-        let e : count + 1 ≡ i = omega arith in
-        subst (λ k. held_by (at (set list count v) k) ≡ true) e (ap held_by last ∙ here)
-      )
+          let last : at (set list count v) (count + 1) ≡ v = ap (λ xs. at xs (count + 1)) (sym stored_behind) ∙ at-put_same list (count + 1) v (omega arith) (omega arith) in
+          let e : count + 1 ≡ i = omega arith in
+          subst (λ k. held_by (at (set list count v) k) ≡ true) e (ap held_by last ∙ here)
+          )
     ]
 
     held_over : HeldTo (set list count v) count

@@ -1,9 +1,8 @@
 -- A request decided from the locks of the most urgent holder (02, CR 9): the definitions. OneHolderLaws shows that this is the full reading of all locks.
 -- Assumes nothing.
-use Rattle.std.specs.Prelude.{◌≡◌, refl, List, ◌≢◌, Bool, false, ◌||◌, ℕ, ◌-◌, ◌≤◌, min, eqb, ltb, get_or}
+use Rattle.std.specs.Prelude.{◌≡◌, refl, List, ◌≢◌, Bool, false, ◌||◌, ℕ, ◌-◌, ◌≤◌, min, eqb, ltb, get_or, if◌then◌else◌}
 use Rattle.std.proofs.Common.{sym, eq-eqb, ne_eqb}
 use Rattle.basics.specs.Arrays.{at, at_index}
-use Rattle.basics.specs.Choice.{if◌then◌else◌}
 use Rattle.basics.specs.Loops.{least}
 use Rattle.ranks.specs.Ranks.{member, with, disjoint, up_to}
 use Rattle.state.specs.declared.Counts.{Counts}

@@ -1,17 +1,17 @@
 -- The most urgent holder decides: where it is the requester, or there is none, the request passes every lock; else the lowest of its keys is the lowest key of
 -- all locks of others. Shown from the order of the holders: each of its locks weighs at most its rank, and every other holder's lock weighs more.
 -- Assumes nothing.
-use Rattle.std.specs.Prelude.{◌≡◌, refl, ◌≢◌, ◌⊎◌, Bool, true, false, ℕ, ◌+◌, ◌*◌, ◌≤◌, eqb, ltb}
+use Rattle.std.specs.Prelude.{◌≡◌, refl, ◌≢◌, ◌⊎◌, Bool, true, false, ℕ, ◌+◌, ◌*◌, ◌≤◌, eqb, ltb, if◌then◌else◌}
 use Rattle.std.proofs.Common.{sym, ap, ◌∙◌, inl, inr, le_antisymm, arith, eqb-true, ne_eqb, lt-ltb}
 use Rattle.std.proofs.Math.Path.{subst}
 use Rattle.std.proofs.Math.Decide.{ℕ_discrete}
 use Rattle.std.proofs.lemmas.Bool.{eqb-false}
-use Rattle.basics.specs.Choice.{if◌then◌else◌, clash}
+use Rattle.basics.specs.Choice.{clash}
 use Rattle.basics.specs.Loops.{least, least-le, least_top, le-least}
 use Rattle.ranks.specs.Ranks.{member}
 use Rattle.ranks.specs.RankLaws.{member-zero}
 use Rattle.state.specs.declared.State.{State}
-use Rattle.state.specs.State.{most_jobs, read, write, holders, holds}
+use Rattle.state.specs.State.{most_jobs, read, write, holders}
 use Rattle.state.specs.Facts.{In}
 use Rattle.state.specs.Modes.{Mode}
 use Rattle.state.specs.Weights.{weight}

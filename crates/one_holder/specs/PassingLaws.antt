@@ -1,12 +1,12 @@
 -- Whether a rank is more urgent than a holder's lock, by the ranks that the lock weighs by, is whether it passes the lock's key. Shown from what is known of the
 -- holders: who has a write lock may write its object, and so of one job's two locks on an object the write lock decides.
 -- Assumes nothing.
-use Rattle.std.specs.Prelude.{◌≡◌, refl, Bool, ltb}
+use Rattle.std.specs.Prelude.{◌≡◌, refl, Bool, ltb, if◌then◌else◌}
 use Rattle.std.proofs.Common.{sym, ◌∙◌, inl, inr, arith, lt-ltb, ltb-true}
 use Rattle.std.proofs.Math.Path.{ap}
 use Rattle.std.proofs.Math.Bool.{true, false}
 use Prim.Native.Nat.{ℕ, ◌+◌, ◌≤◌, min}
-use Rattle.basics.specs.Choice.{if◌then◌else◌, same_test, clash}
+use Rattle.basics.specs.Choice.{same_test, clash}
 use Rattle.ranks.specs.Ranks.{member, with, first, disjoint, up_to}
 use Rattle.ranks.specs.UnionLaws.{union_either}
 use Rattle.ranks.specs.FirstLaws.{disjoint-up_to, first-with}

@@ -1,7 +1,7 @@
 // The locks of one holder, and the most urgent holder's deciding a request (02, CR 9).
 #![tactic(auto)]
-ghost use Rattle.std.specs.Prelude.{◌≡◌, ◌⊎◌, false, ◌||◌, ℕ, ◌+◌, ◌≤◌, ◌<◌, eqb};
-ghost use Rattle.basics.specs.Choice.{if◌then◌else◌};
+
+ghost use Rattle.std.specs.Prelude.{◌≡◌, ◌⊎◌, false, ◌||◌, ℕ, ◌+◌, ◌≤◌, ◌<◌, eqb, if◌then◌else◌};
 ghost use Rattle.basics.specs.Loops.{one_if};
 ghost use Rattle.state.specs.State.{most_jobs, most_objects, marked};
 ghost use Rattle.state.specs.Holders.{held_state};

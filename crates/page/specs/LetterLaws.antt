@@ -1,9 +1,9 @@
 -- The letters of the lines: who runs has R, who waits W and who sleeps Z, and a number is one of the ranks at most once.
 -- Assumes nothing.
-use Rattle.std.specs.Prelude.{◌≡◌, refl, ◌⊎◌, Bool, true, false, not, ◌&&◌, ℕ, zero, suc, ◌+◌, ◌≤◌, ◌<◌, eqb}
+use Rattle.std.specs.Prelude.{◌≡◌, refl, ◌⊎◌, Bool, true, false, not, ◌&&◌, ℕ, zero, suc, ◌+◌, ◌≤◌, ◌<◌, eqb, if◌then◌else◌}
 use Rattle.std.proofs.Common.{sym, ap, ◌∙◌, inl, inr, eq-or-lt_of_le, arith, eqb-true, eq-eqb, ne_eqb}
 use Rattle.std.proofs.lemmas.Bool.{not-true}
-use Rattle.basics.specs.Choice.{if◌then◌else◌, clash, same_test, and_left, and_right}
+use Rattle.basics.specs.Choice.{clash, same_test, and_left, and_right}
 use Rattle.basics.specs.Loops.{sum, one_if}
 use Rattle.state.specs.declared.State.{State}
 use Rattle.state.specs.State.{most_jobs, processor_of_job, is_active, is_waiting, is_sleeping}

@@ -1,10 +1,9 @@
 -- Laws of a line: how long it and its fields are, and what stands in its columns.
 -- Assumes nothing.
-use Rattle.std.specs.Prelude.{◌≡◌, refl, Bool, true, false, List, [], ◌∷◌, ◌++◌, ℕ, suc, ◌+◌, ◌<◌, eqb, length, take, drop}
+use Rattle.std.specs.Prelude.{◌≡◌, refl, Bool, true, false, List, [], ◌∷◌, ◌++◌, ℕ, suc, ◌+◌, ◌<◌, eqb, length, take, drop, if◌then◌else◌}
 use Rattle.std.proofs.Common.{ap, ◌∙◌, arith, take_at}
 use Rattle.std.proofs.Math.ListN.{length-append}
 use Rattle.std.proofs.Math.Seq.{drop-append-add}
-use Rattle.basics.specs.Choice.{if◌then◌else◌}
 use Rattle.decimals.specs.Decimal.{decimal, decimal_length, byte_length}
 use Rattle.decimals.specs.Fields.{right_aligned, aligned_length}
 use Rattle.page.specs.Page.{named_field, line_of}

@@ -1,7 +1,7 @@
 -- The state page: its lines, its refusals, what the page writer answers and leaves in the lent buffer (02, CR 2 and CR 8: the sentences in quotes).
 -- Assumes nothing.
-use Rattle.std.specs.Prelude.{ℕ, Bool, not, List, [], ◌∷◌, eqb, ltb, length}
-use Rattle.basics.specs.Choice.{if◌then◌else◌, ◌if◌else◌}
+use Rattle.std.specs.Prelude.{ℕ, Bool, not, List, [], ◌∷◌, eqb, ltb, length, if◌then◌else◌}
+use Rattle.basics.specs.Choice.{◌if◌else◌}
 use Rattle.basics.specs.Loops.{joined}
 use Rattle.basics.specs.Replies.{Reply, refused, told}
 use Rattle.state.specs.declared.State.{State}

@@ -1,13 +1,13 @@
 -- What stands on the page of a well-formed state, said of the questions' own answers (02, CR 2 and CR 8: the sentences in quotes). First the terms, then the
 -- theorems `line_shown`, `waiting_letter`, `sleeping_letter` and `one_runs`.
 -- Assumes nothing.
-use Rattle.std.specs.Prelude.{◌≡◌, refl, Bool, true, false, ◌&&◌, eqb, get_or}
+use Rattle.std.specs.Prelude.{◌≡◌, refl, Bool, true, false, ◌&&◌, eqb, get_or, if◌then◌else◌}
 use Rattle.std.proofs.Common.{sym, ap, ap₂, ◌∙◌, add-zero, arith}
 use Rattle.std.proofs.Math.Path.{subst}
 use mathlib.Core.List.{List, [], ◌∷◌, ◌++◌, append_assoc}
 use Prim.Native.Nat.{ℕ, zero, suc, ◌-◌, ◌*◌, ◌≤◌, ◌<◌}
 use borrow.Author.Tests.{eq-eqb, ne_eqb, lt-ltb}
-use Rattle.basics.specs.Choice.{if◌then◌else◌, inside_between}
+use Rattle.basics.specs.Choice.{inside_between}
 use Rattle.basics.specs.Loops.{joined, sum, one_if, sum_same}
 use Rattle.basics.specs.JoinedLaws.{joined_split}
 use Rattle.basics.specs.Replies.{told}

@@ -1,13 +1,13 @@
 -- The page by what the code has worked out: the lock that each rank names, and the rank that each processor runs.
 -- Then that it is the page of the state with these.
 -- Assumes nothing.
-use Rattle.std.specs.Prelude.{◌≡◌, refl, Bool, true, false, not, ℕ, suc, ◌+◌, ◌-◌, ◌≤◌, ◌<◌, eqb, get_or}
+use Rattle.std.specs.Prelude.{◌≡◌, refl, Bool, true, false, not, ℕ, suc, ◌+◌, ◌-◌, ◌≤◌, ◌<◌, eqb, get_or, if◌then◌else◌}
 use Rattle.std.proofs.Math.Path.{ap}
 use Rattle.std.proofs.Common.{◌∙◌, arith}
 use mathlib.Core.List.{List, [], ◌++◌, append-nil}
 use Rattle.std.proofs.Math.ListN.{length, length-append}
 use Rattle.basics.specs.Arrays.{at, FilledTo}
-use Rattle.basics.specs.Choice.{if◌then◌else◌, inside_between}
+use Rattle.basics.specs.Choice.{inside_between}
 use Rattle.basics.specs.Loops.{joined, joined_more, least_top}
 use Rattle.basics.specs.JoinedLaws.{joined_same, joined_grows}
 use Rattle.ranks.specs.Ranks.{member}

@@ -1,9 +1,9 @@
 -- An event keeps the version; and in version 2 a job that finishes has no write lock that is not certified, by refusal 25.
 -- Assumes nothing.
-use Rattle.std.specs.Prelude.{◌≡◌, refl, ◌≢◌, Bool, true, false, ◌||◌, ℕ, zero, suc, eqb}
+use Rattle.std.specs.Prelude.{◌≡◌, refl, ◌≢◌, Bool, true, false, ◌||◌, ℕ, zero, suc, eqb, if◌then◌else◌}
 use Rattle.std.proofs.Common.{subst, ap, arith}
 use Rattle.std.proofs.lemmas.Bool.{not-false}
-use Rattle.basics.specs.Choice.{if◌then◌else◌, between}
+use Rattle.basics.specs.Choice.{between}
 use Rattle.state.specs.declared.Counts.{Counts}
 use Rattle.state.specs.declared.State.{State}
 use Rattle.state.specs.State.{write, activate, await, grant, release, fall_asleep, awaken, end_run}

@@ -1,7 +1,7 @@
 -- What a change of a state leaves of its view, and what a grant makes of the weights: a lock is taken as the theory asks.
 -- What a lock weighs is the table's affair and, of a write lock, that of its mark, with which it weighs at least as urgent as without.
 -- Assumes nothing.
-use Rattle.std.specs.Prelude.{◌≡◌, ◌≢◌, Bool, ◌||◌, ℕ, ◌≤◌, min}
+use Rattle.std.specs.Prelude.{◌≡◌, ◌≢◌, Bool, ◌||◌, ℕ, ◌≤◌, min, if◌then◌else◌}
 use Rattle.std.proofs.Math.Path.{refl, sym, ap}
 use Rattle.std.proofs.Common.{subst, ap₂, ◌∙◌}
 use Rattle.std.proofs.Math.Logic.{inl, inr}
@@ -9,7 +9,6 @@ use Rattle.std.proofs.Math.Bool.{true, false}
 use native.Mathlib.Omega.{arith}
 use Rattle.std.proofs.Math.Decide.{ℕ_discrete}
 use Rattle.std.proofs.Math.Dec.{eqb}
-use Rattle.basics.specs.Choice.{if◌then◌else◌}
 use Rattle.ranks.specs.Ranks.{member}
 use Rattle.ranks.specs.RankLaws.{member-with_same}
 use Rattle.ranks.specs.UnionLaws.{first-union}

@@ -1,10 +1,10 @@
 -- What the modes of locks tell (specs/LockModes), and that a grant gives a lock as the theory asks.
 -- A certify lock is a write lock with a mark, which only its holder's grant sets.
 -- Assumes nothing.
-use Rattle.std.specs.Prelude.{◌≡◌, refl, ◌≢◌, Bool, true, false, not, ◌||◌, ℕ, ◌≤◌, ◌<◌}
+use Rattle.std.specs.Prelude.{◌≡◌, refl, ◌≢◌, Bool, true, false, not, ◌||◌, ℕ, ◌≤◌, ◌<◌, if◌then◌else◌}
 use Rattle.std.proofs.Common.{sym, subst, ap, ap₂, ◌∙◌, arith, eq-eqb}
 use Rattle.std.proofs.Math.Decide.{ℕ_discrete}
-use Rattle.basics.specs.Choice.{if◌then◌else◌, clash}
+use Rattle.basics.specs.Choice.{clash}
 use Rattle.ranks.specs.Ranks.{member}
 use Rattle.ranks.specs.RankLaws.{member-with_same}
 use Rattle.state.specs.declared.State.{State}

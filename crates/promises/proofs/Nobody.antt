@@ -2,14 +2,14 @@
 -- else say the same there. Each lock that is held weighs the same by both, since its holder is a rank of the table and may lock its object; so each
 -- lowest key is the same, and all that follows from it. A holder is more urgent than nobody by both, so that the reason is the same too.
 -- Assumes nothing.
-use Rattle.std.specs.Prelude.{◌≡◌, ◌⊎◌, Bool, ◌&&◌, ℕ, zero, suc, ◌+◌, ◌*◌, ◌%◌, ◌^◌, ◌≤◌, ◌<◌, ltb}
+use Rattle.std.specs.Prelude.{◌≡◌, ◌⊎◌, Bool, ◌&&◌, ℕ, zero, suc, ◌+◌, ◌*◌, ◌%◌, ◌^◌, ◌≤◌, ◌<◌, ltb, if◌then◌else◌}
 use Rattle.std.proofs.Math.Path.{refl, ap}
 use Rattle.std.proofs.Common.{sym, subst, ap₂, ◌∙◌, inl, inr, arith}
 use Rattle.std.proofs.Math.Bool.{true, false, not}
 use Rattle.std.proofs.Math.Decide.{dec_lt}
 use Rattle.std.proofs.Math.Dec.{eqb}
 use borrow.Author.Tests.{ltb-true, ltb-false, lt-ltb, ne_eqb}
-use Rattle.basics.specs.Choice.{if◌then◌else◌, ◌if◌else◌, same_test, and_left, between_true}
+use Rattle.basics.specs.Choice.{◌if◌else◌, same_test, and_left, between_true}
 use Rattle.basics.specs.Loops.{least_same, first_nonzero_same}
 use Rattle.ranks.specs.Ranks.{member}
 use Rattle.ranks.specs.RankLaws.{member-le, first-le}

@@ -2,7 +2,7 @@
 -- passes by both rules, or meets the same lock.
 -- The job that runs is the most urgent holder, or more urgent than every holder; so each lock that stops it weighs the same by both rules.
 -- Assumes nothing.
-use Rattle.std.specs.Prelude.{◌≡◌, ◌≢◌, ◌⊎◌, Bool, true, false, not, ◌&&◌, ◌||◌, eqb}
+use Rattle.std.specs.Prelude.{◌≡◌, ◌≢◌, ◌⊎◌, Bool, true, false, not, ◌&&◌, ◌||◌, eqb, if◌then◌else◌}
 use Rattle.std.proofs.Math.Path.{refl, sym}
 use Rattle.std.proofs.Common.{subst, ap, ◌∙◌}
 use Rattle.std.proofs.Math.Logic.{inl, inr}
@@ -10,7 +10,7 @@ use Prim.Native.Nat.{ℕ, zero, suc, ◌+◌, ◌*◌, ◌≤◌, ◌<◌}
 use native.Mathlib.Omega.{arith}
 use Rattle.std.proofs.Math.Decide.{ℕ_discrete, dec_lt}
 use borrow.Author.Tests.{eqb-false, eq-eqb, ne_eqb, lt-ltb}
-use Rattle.basics.specs.Choice.{if◌then◌else◌, ◌if◌else◌, or_right}
+use Rattle.basics.specs.Choice.{◌if◌else◌, or_right}
 use Rattle.basics.specs.Loops.{least, least_top, least-le, least_at}
 use Rattle.ranks.specs.Ranks.{member}
 use Rattle.state.specs.declared.State.{State}

@@ -1,11 +1,11 @@
 -- Two states that differ only in who sleeps answer alike, but who runs: no rule of a request, a wake-up, a named lock or an inherited rank reads the sleepers.
 -- Assumes nothing.
-use Rattle.std.specs.Prelude.{◌≡◌, refl, ◌≢◌, true, false, ℕ}
+use Rattle.std.specs.Prelude.{◌≡◌, refl, ◌≢◌, true, false, ℕ, if◌then◌else◌}
 use Rattle.std.proofs.Math.Path.{sym, ap₂}
 use Rattle.std.proofs.Common.{ap, ◌∙◌}
 use Rattle.std.proofs.Math.Bool.{Bool}
 use Rattle.std.proofs.Math.Dec.{eqb}
-use Rattle.basics.specs.Choice.{if◌then◌else◌, between}
+use Rattle.basics.specs.Choice.{between}
 use Rattle.ranks.specs.Ranks.{without}
 use Rattle.state.specs.declared.State.{State}
 use Rattle.state.specs.State.{with_sleepers, await, grant, release, end_run}

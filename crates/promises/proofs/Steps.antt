@@ -1,6 +1,6 @@
 -- Each event in a well-formed state is a step as the theory asks: first each rule, then any event.
 -- Assumes nothing.
-use Rattle.std.specs.Prelude.{◌≡◌, ◌≢◌, Bool, true, false, not, eqb}
+use Rattle.std.specs.Prelude.{◌≡◌, ◌≢◌, Bool, true, false, not, eqb, if◌then◌else◌}
 use Rattle.std.proofs.Math.Path.{refl, sym, subst, ap}
 use Rattle.std.proofs.Common.{◌∙◌, ne_eqb}
 use Rattle.std.proofs.Math.Logic.{inl, inr}
@@ -8,7 +8,7 @@ use Prim.Native.Nat.{ℕ, zero, suc, ◌≤◌, ◌<◌}
 use native.Mathlib.Omega.{arith}
 use Rattle.std.proofs.Math.Decide.{ℕ_discrete}
 use Rattle.std.proofs.lemmas.Bool.{not-false}
-use Rattle.basics.specs.Choice.{if◌then◌else◌, clash, between, and_left, between_true}
+use Rattle.basics.specs.Choice.{clash, between, and_left, between_true}
 use Rattle.ranks.specs.Ranks.{with, without}
 use Rattle.ranks.specs.RankLaws.{member-with_same, member-without_same}
 use Rattle.state.specs.declared.State.{State}

@@ -1,8 +1,7 @@
 -- What a state of the manager shows to the theory of the modes of its locks.
 -- A certify lock is a write lock with a mark, which only its holder's grant sets.
 -- Assumes nothing.
-use Rattle.std.specs.Prelude.{Bool, ℕ}
-use Rattle.basics.specs.Choice.{if◌then◌else◌}
+use Rattle.std.specs.Prelude.{Bool, ℕ, if◌then◌else◌}
 use Rattle.state.specs.declared.State.{State}
 use Rattle.state.specs.State.{read, write, certify, holds, is_certified, requested_mode}
 use Rattle.theory.specs.Modes.{Modes}

@@ -2,8 +2,8 @@
 -- `nobody-..` of proofs/Promises.antt, and nothing else uses it. Each definition is the rule's own of the same name without 65, with the ceilings of this file;
 -- what asks for no ceiling is not written again: refusals, the order of keys, what an event changes. It is a rule for both versions, as the rule is.
 -- Assumes nothing.
-use Rattle.std.specs.Prelude.{Bool, ◌&&◌, ℕ, ◌+◌, ◌*◌, ◌%◌, eqb}
-use Rattle.basics.specs.Choice.{if◌then◌else◌, between}
+use Rattle.std.specs.Prelude.{Bool, ◌&&◌, ℕ, ◌+◌, ◌*◌, ◌%◌, eqb, if◌then◌else◌}
+use Rattle.basics.specs.Choice.{between}
 use Rattle.basics.specs.Loops.{least, first_nonzero}
 use Rattle.ranks.specs.Ranks.{first}
 use Rattle.state.specs.declared.State.{State}

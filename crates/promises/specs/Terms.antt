@@ -2,8 +2,8 @@
 -- one job's locks, a request by the old rule, no sleeper above a job, who is more urgent than an object's writers, and a ceiling. The sentences in quotes
 -- are document 01's, or where it says so 02's.
 -- Assumes nothing.
-use Rattle.std.specs.Prelude.{◌≡◌, Bool, true, ◌||◌, ℕ, ◌+◌, ◌≤◌, ◌<◌, eqb, get_or}
-use Rattle.basics.specs.Choice.{if◌then◌else◌, between}
+use Rattle.std.specs.Prelude.{◌≡◌, Bool, true, ◌||◌, ℕ, ◌+◌, ◌≤◌, ◌<◌, eqb, get_or, if◌then◌else◌}
+use Rattle.basics.specs.Choice.{between}
 use Rattle.state.specs.declared.State.{State}
 use Rattle.state.specs.State.{write, may_lock, holds, holds_any, is_sleeping}
 use Rattle.state.specs.Facts.{Sized, In}

@@ -1,7 +1,6 @@
 -- What a state of the manager shows to the theory of demand 3.
 -- Assumes nothing.
-use Rattle.std.specs.Prelude.{Bool, ℕ}
-use Rattle.basics.specs.Choice.{if◌then◌else◌}
+use Rattle.std.specs.Prelude.{Bool, ℕ, if◌then◌else◌}
 use Rattle.state.specs.declared.State.{State}
 use Rattle.state.specs.State.{is_active, has_unlocked, requested_object}
 use Rattle.theory.specs.Machine.{View}

@@ -1,7 +1,6 @@
 -- What the manager's locks weigh, as the theory sees them: one weight for each job and object, `no_weight` where it holds no lock.
 -- Assumes nothing.
-use Rattle.std.specs.Prelude.{Bool, ℕ, min}
-use Rattle.basics.specs.Choice.{if◌then◌else◌}
+use Rattle.std.specs.Prelude.{Bool, ℕ, min, if◌then◌else◌}
 use Rattle.state.specs.declared.State.{State}
 use Rattle.state.specs.State.{read, write, holds}
 use Rattle.state.specs.Weights.{weight}

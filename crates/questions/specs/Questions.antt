@@ -1,7 +1,6 @@
 -- The four questions, each refused by its numbers or answered from the rule (01, "Refusals by who can cause them": the sentences in quotes).
 -- Assumes nothing.
-use Rattle.std.specs.Prelude.{ℕ, eqb}
-use Rattle.basics.specs.Choice.{if◌then◌else◌}
+use Rattle.std.specs.Prelude.{ℕ, eqb, if◌then◌else◌}
 use Rattle.state.specs.declared.State.{State}
 use Rattle.state.specs.Weights.{write_ceiling_of, absolute_ceiling_of}
 use Rattle.rule.specs.Granting.{named_holder_of, named_object_of}

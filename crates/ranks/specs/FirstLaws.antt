@@ -1,11 +1,11 @@
 -- What the first rank of a set tells, of any set: first the bits of a number less one, then the ranks before the set's first, those up to a rank,
 -- those after it, and the most urgent rank of a word.
 -- Assumes nothing.
-use Rattle.std.specs.Prelude.{◌≡◌, ℕ, zero, suc, ◌+◌, ◌-◌, ◌/◌, ◌%◌, ◌^◌, ◌<◌, ◌≤◌, min, Bool, true, false, not, ◌&&◌, ◌≢◌, ◌⊎◌, nat_lt, refl}
+use Rattle.std.specs.Prelude.{◌≡◌, ℕ, zero, suc, ◌+◌, ◌-◌, ◌/◌, ◌%◌, ◌^◌, ◌<◌, ◌≤◌, min, Bool, true, false, not, ◌&&◌, ◌≢◌, ◌⊎◌, nat_lt, refl, if◌then◌else◌}
 use Rattle.std.proofs.Common.{sym, ap, ap₂, ◌∙◌, inl, inr, eq-zero-or-pos, zero-lt-suc, le_antisymm, arith, pow_pos, eqb-true, ne_eqb, ltb-true, lt-ltb}
 use Rattle.std.proofs.Math.Decide.{ℕ_discrete, dec_le}
 use Rattle.std.proofs.lemmas.Bool.{not-true}
-use Rattle.basics.specs.Choice.{if◌then◌else◌, clash, same_test, and_true, and_left, and_right}
+use Rattle.basics.specs.Choice.{clash, same_test, and_true, and_left, and_right}
 use Rattle.ranks.specs.Ranks.{word_bits, is_empty, bit, member, with, disjoint, first, most_urgent, but_first, up_to, less_one, before}
 use Rattle.ranks.specs.Bits.{bit-zero, bit-suc, bit-lt, single_other}
 use Rattle.ranks.specs.RankLaws.{member-bit, bit-member, member-zero, member_empty, member-common, member-minus, same_bit}

@@ -1,9 +1,8 @@
 -- Sets of ranks as numbers. Rank r is bit r - 1; ranks start at 1, so 0 is a member of no set.
 -- Any number is a set, however large: only what the code does to a word asks how many ranks there can be.
 -- Assumes nothing.
-use Rattle.std.specs.Prelude.{ℕ, zero, suc, ◌+◌, ◌-◌, ◌/◌, ◌%◌, ◌^◌, Bool, false, ◌==◌, bit_and, bit_or, bit_xor, count_ones, nat_le}
+use Rattle.std.specs.Prelude.{ℕ, zero, suc, ◌+◌, ◌-◌, ◌/◌, ◌%◌, ◌^◌, Bool, false, ◌==◌, bit_and, bit_or, bit_xor, count_ones, nat_le, if◌then◌else◌}
 use Rattle.std.specs.Int.Count.{count_trailing_zeros}
-use Rattle.basics.specs.Choice.{if◌then◌else◌}
 
 -- the bits of a word, and so the largest rank of a set that is one (01: "Sets of ranks fit 64 bits")
 abbrev pub word_bits : ℕ

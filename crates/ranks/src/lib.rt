@@ -1,5 +1,6 @@
 // Sets of ranks as numbers of one word: rank r is bit r - 1.
 #![tactic(auto)]
+
 ghost use Rattle.std.specs.Prelude.{◌≡◌, ◌≤◌};
 ghost use Rattle.ranks.specs.Ranks as R;
 

@@ -1,8 +1,8 @@
 -- The refusals 8 to 19, 21 and 24 to 27 of events and questions (01, "Refusals by who can cause them"; 02, CR 1, CR 6 and CR 8): "Order: 8, then as numbered.",
 -- with 26, 27 and 25 after 14, 24 after 17 and 21 after 18.
 -- Assumes nothing.
-use Rattle.std.specs.Prelude.{ℕ, ◌-◌, Bool, not, ◌&&◌, ◌||◌, eqb, ltb}
-use Rattle.basics.specs.Choice.{if◌then◌else◌, ◌if◌else◌, between}
+use Rattle.std.specs.Prelude.{ℕ, ◌-◌, Bool, not, ◌&&◌, ◌||◌, eqb, ltb, if◌then◌else◌}
+use Rattle.basics.specs.Choice.{◌if◌else◌, between}
 use Rattle.basics.specs.Loops.{every}
 use Rattle.state.specs.declared.State.{State}
 use Rattle.ranks.specs.Ranks.{member}

@@ -1,5 +1,6 @@
 // The refusals of events and questions, on the parts of a state. A refusal is its number, and 0 is none.
 #![tactic(auto)]
+
 ghost use Rattle.std.specs.Prelude.{◌≡◌, true, not, ◌&&◌, List, ℕ, ◌+◌, ◌-◌, ◌≤◌, eqb};
 ghost use Rattle.basics.specs.Choice.{◌if◌else◌, ◌or_else◌};
 ghost use Rattle.basics.specs.Arrays.{at};

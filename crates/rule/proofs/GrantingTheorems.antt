@@ -1,14 +1,13 @@
 -- Who is granted a lock and which lock is named, said of every lock that another job holds (01, "Granting, naming, waking"): the theorems `passes_iff`,
 -- `stopping_lock`, `named_lock`, `names_nobody` and `first_is_one`, in the terms of specs/GrantingTheorems.
 -- Assumes nothing.
-use Rattle.std.specs.Prelude.{◌≡◌, ◌≢◌, ◌↔◌, ◌⊎◌, true, false, ℕ, ◌+◌, ◌*◌, ◌≤◌, ◌<◌, eqb}
+use Rattle.std.specs.Prelude.{◌≡◌, ◌↔◌, ◌⊎◌, true, false, ℕ, ◌+◌, ◌*◌, ◌≤◌, ◌<◌, eqb}
 use Rattle.std.proofs.Common.{sym, subst, ap, inl, inr, arith, ltb-true, ltb-false, lt-ltb}
 use Rattle.std.proofs.Math.Bool.{and-false}
 use Rattle.std.proofs.Math.Decide.{dec_lt}
 use Rattle.std.proofs.lemmas.Bool.{eqb-false, not-true}
 use Rattle.state.specs.declared.State.{State}
-use Rattle.state.specs.State.{most_jobs, holds, request_of, is_waiting}
-use Rattle.state.specs.Modes.{Mode}
+use Rattle.state.specs.State.{most_jobs, request_of, is_waiting}
 use Rattle.state.specs.WellFormed.{well_formed}
 use Rattle.state.specs.Facts.{Sized, Facts}
 use Rattle.state.specs.WellFormedFacts.{facts, held_rank, held_object, waiting_rank}

@@ -1,9 +1,8 @@
 -- What the most urgent holder's key decides is what the lowest of all keys does (02, CR 9: "Both must equal the full reading of all locks"): in any state of
 -- which the facts of its holders are known, for any rank. First the lock that is named, then the two sentences for well-formed states.
 -- Assumes nothing.
-use Rattle.std.specs.Prelude.{◌≡◌, refl, ◌≢◌, ◌⊎◌, Bool, true, false, not, ◌&&◌, ℕ, ◌≤◌, eqb}
+use Rattle.std.specs.Prelude.{◌≡◌, refl, ◌≢◌, ◌⊎◌, Bool, true, false, not, ◌&&◌, ℕ, ◌≤◌, eqb, if◌then◌else◌}
 use Rattle.std.proofs.Common.{arith, lt-ltb}
-use Rattle.basics.specs.Choice.{if◌then◌else◌}
 use Rattle.state.specs.declared.State.{State}
 use Rattle.state.specs.State.{most_jobs}
 use Rattle.state.specs.Weights.{weight}

@@ -1,7 +1,7 @@
 -- Who is granted a lock, whom a waiting job names and why, who is woken (01, "Granting, naming, waking").
 -- Assumes nothing.
-use Rattle.std.specs.Prelude.{ℕ, Bool, not, ◌&&◌, ◌||◌, eqb, ltb}
-use Rattle.basics.specs.Choice.{if◌then◌else◌, ◌if◌else◌}
+use Rattle.std.specs.Prelude.{ℕ, Bool, not, ◌&&◌, ◌||◌, eqb, ltb, if◌then◌else◌}
+use Rattle.basics.specs.Choice.{◌if◌else◌}
 use Rattle.basics.specs.Loops.{first_nonzero}
 use Rattle.ranks.specs.Ranks.{member}
 use Rattle.state.specs.declared.State.{State}

@@ -2,21 +2,12 @@
 -- (01, "Granting, naming, waking"): the terms of the theorems `passes_iff`, `stopping_lock`, `named_lock`, `names_nobody` and `first_is_one`, which stand in
 -- proofs/GrantingTheorems.
 -- Assumes nothing.
-use Rattle.std.specs.Prelude.{◌≡◌, ◌≢◌, ◌↔◌, ◌⊎◌, true, false, ℕ, ◌+◌, ◌*◌, ◌≤◌, ◌<◌, eqb}
-use Rattle.std.proofs.Common.{sym, subst, ap, inl, inr, arith, ltb-true, ltb-false, lt-ltb}
-use Rattle.std.proofs.Math.Bool.{and-false}
-use Rattle.std.proofs.Math.Decide.{dec_lt}
-use Rattle.std.proofs.lemmas.Bool.{eqb-false, not-true}
+use Rattle.std.specs.Prelude.{◌≡◌, ◌≢◌, true, ℕ, ◌≤◌, ◌<◌}
 use Rattle.state.specs.declared.State.{State}
-use Rattle.state.specs.State.{most_jobs, holds, request_of, is_waiting}
+use Rattle.state.specs.State.{holds}
 use Rattle.state.specs.Modes.{Mode}
-use Rattle.state.specs.WellFormed.{well_formed}
-use Rattle.state.specs.Facts.{Sized, Facts}
-use Rattle.state.specs.WellFormedFacts.{facts, held_rank, held_object, waiting_rank}
 use Rattle.state.specs.Weights.{weight}
-use Rattle.weights.specs.Keys.{lock_key, no_key, key_weight, key_holder, key_object, lowest_key}
-use Rattle.weights.specs.KeyLaws.{OthersLock, KeyOfOther, key_below, key_at, le_key}
-use Rattle.rule.specs.Granting.{passes, named_key, named_holder_of, named_object_of}
+use Rattle.weights.specs.Keys.{key_holder, key_object, lowest_key}
 
 -- ---- the terms
 

@@ -1,12 +1,12 @@
 -- The search for a waiting job: what it finds is 0, or the first waiting rank whose request passes. Then the terms in which the code goes from one waiting rank
 -- to the next.
 -- Assumes nothing.
-use Rattle.std.specs.Prelude.{◌≡◌, refl, ◌≢◌, ◌⊎◌, Bool, true, false, not, ◌&&◌, ℕ, zero, suc, ◌+◌, ◌-◌, ◌≤◌, ◌<◌, eqb, ltb, leb, List}
+use Rattle.std.specs.Prelude.{◌≡◌, refl, ◌≢◌, ◌⊎◌, Bool, true, false, not, ◌&&◌, ℕ, zero, suc, ◌+◌, ◌-◌, ◌≤◌, ◌<◌, eqb, ltb, leb, List, if◌then◌else◌}
 use Rattle.std.proofs.Common.{sym, subst, inl, inr, arith, eqb-true}
 use Rattle.std.proofs.Math.Decide.{ℕ_discrete, dec_le}
 use Rattle.basics.specs.Arrays.{at}
 use Rattle.std.proofs.lemmas.Bool.{eqb-false}
-use Rattle.basics.specs.Choice.{if◌then◌else◌, ◌or_else◌}
+use Rattle.basics.specs.Choice.{◌or_else◌}
 use Rattle.basics.specs.Loops.{every, every-at, first_nonzero}
 use Rattle.state.specs.declared.State.{State}
 use Rattle.state.specs.State.{most_jobs, request_of, is_waiting}

@@ -1,6 +1,7 @@
 // The rule of 1PI-RWPCP: whether a request passes, whom it names and why, the wake search.
 // A function sees the parts of a state that it asks about: numbers by value, a rank's or an object's array by reference.
 #![tactic(auto)]
+
 ghost use Rattle.std.specs.Prelude.{◌≡◌, ◌⊎◌, ◌+◌, ◌≤◌, ◌<◌};
 ghost use Rattle.state.specs.State.{most_jobs};
 ghost use Rattle.state.specs.Holders.{HolderFacts, held_state};

@@ -9,7 +9,6 @@ use Rattle.std.proofs.Math.Path.{ap, refl, subst, sym}
 use native.Mathlib.Omega.{arith}
 use Rattle.basics.specs.Arrays.{at, at-put_other, at-put_same, length-put}
 use Rattle.state.specs.Modes.{either_mode}
-use Rattle.state.specs.WellFormedFacts.{facts}
 use Rattle.std.proofs.Math.Bool.{false, true}
 use Rattle.state.specs.Keeping.{fewer_locks, keep, kept_mark}
 use Rattle.state.specs.State.{holders, holds, is_active, most_objects, most_urgent_holder, read, release, release_readers, request_of, write}

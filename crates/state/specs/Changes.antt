@@ -1,19 +1,19 @@
 -- What each change of a state does: `Same s t x` says that t says of job x what s says, and every change leaves each job but its own so.
 -- Then what a change does to the holders of each object, and to the request of its own job.
 -- Assumes nothing.
-use Rattle.std.specs.Prelude.{◌≡◌, ◌≢◌, ◌⊎◌, Bool, ℕ, zero, suc, ◌^◌, ◌≤◌, ◌<◌, eqb}
+use Rattle.std.specs.Prelude.{◌≡◌, ◌≢◌, ◌⊎◌, Bool, ℕ, zero, suc, ◌^◌, ◌≤◌, ◌<◌, eqb, if◌then◌else◌}
 use Rattle.std.proofs.Math.Path.{refl, subst, ap}
 use Rattle.std.proofs.Common.{sym, ◌∙◌, inl, inr, arith, eq-eqb, ne_eqb}
 use Rattle.std.proofs.Math.Bool.{true, false}
 use Rattle.std.proofs.Math.Decide.{ℕ_discrete}
-use Rattle.basics.specs.Choice.{if◌then◌else◌, clash}
+use Rattle.basics.specs.Choice.{clash}
 use Rattle.basics.specs.Arrays.{at, put, at-put_same, at-put_other, at-mapped}
 use Rattle.ranks.specs.Ranks.{member, with, without}
 use Rattle.ranks.specs.RankLaws.{member-with_same, member-with_other, member-without_same, member-without_other, with-lt, without-lt}
 use Rattle.state.specs.declared.State.{State}
 use Rattle.state.specs.State.{most_jobs, most_objects, read, write, certify, marked, mark, holders, holds, is_certified, is_active, has_unlocked, is_sleeping, request_of, request_for}
 use Rattle.state.specs.State.{with_locks, with_sleepers}
-use Rattle.state.specs.State.{activate, await, grant, release, end_run}
+use Rattle.state.specs.State.{activate, await, grant, end_run}
 use Rattle.state.specs.Facts.{Sized, In, RequestFacts, Facts}
 use Rattle.state.specs.Marks.{mark_same, mark_other, drop_kept, drop_gone}
 use Rattle.state.specs.Modes.{either_mode}

@@ -1,15 +1,15 @@
 -- The most urgent holder and the order of the holders (02, CR 9): what is known of them by the locks alone, what a lock weighs beside its holder, whom a
 -- grant makes the most urgent holder, and that giving locks up keeps the order.
 -- Assumes nothing.
-use Rattle.std.specs.Prelude.{◌≡◌, ◌≢◌, Bool, true, false, ◌||◌, List, [], ℕ, ◌^◌, ◌≤◌, ◌<◌, eqb, length}
+use Rattle.std.specs.Prelude.{◌≡◌, ◌≢◌, Bool, true, false, ◌||◌, List, [], ℕ, ◌^◌, ◌≤◌, ◌<◌, eqb, length, if◌then◌else◌}
 use Rattle.std.proofs.Math.Path.{refl, sym, subst, ap}
-use Rattle.std.proofs.Common.{◌∙◌, le_antisymm, arith, pow_mono}
+use Rattle.std.proofs.Common.{◌∙◌, arith, pow_mono}
 use Rattle.std.proofs.Math.Logic.{inl, inr}
 use Rattle.std.proofs.Math.Decide.{ℕ_discrete}
-use Rattle.basics.specs.Choice.{if◌then◌else◌, clash}
+use Rattle.basics.specs.Choice.{clash}
 use Rattle.basics.specs.Arrays.{at, put, at-put_same, at-put_other, length-put, at-mapped, length-mapped}
 use Rattle.ranks.specs.Ranks.{member, with, without, union, most_urgent, unions}
-use Rattle.ranks.specs.RankLaws.{member-with_same, member-with_other, member-without_other, without-lt, no_member}
+use Rattle.ranks.specs.RankLaws.{member-with_same, member-with_other, without-lt, no_member}
 use Rattle.ranks.specs.UnionLaws.{union_left, union_right, union_either, union-lt, in_unions, unions_in, unions-lt, unions_both, first-union}
 use Rattle.ranks.specs.FirstLaws.{most_urgent-member, most_urgent-least, most_urgent_is}
 use Rattle.state.specs.declared.Counts.{Counts}

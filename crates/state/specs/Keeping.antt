@@ -1,7 +1,7 @@
 -- Each change keeps the facts of a well-formed state: a start, a wait, a job that falls asleep or is awakened, a release, the end of a run; and a grant with
 -- which no other job's lock conflicts.
 -- Assumes nothing.
-use Rattle.std.specs.Prelude.{◌≡◌, ◌≢◌, ◌⊎◌, Bool, not, ◌&&◌, ◌||◌, ℕ, ◌^◌, ◌≤◌, ◌<◌}
+use Rattle.std.specs.Prelude.{◌≡◌, ◌≢◌, ◌⊎◌, Bool, not, ◌&&◌, ◌||◌, ℕ, ◌^◌, ◌≤◌, ◌<◌, if◌then◌else◌}
 use Rattle.std.proofs.Math.Path.{refl, sym, subst, ap}
 use Rattle.std.proofs.Common.{ap₂, ◌∙◌, eq-eqb, ne_eqb}
 use Rattle.std.proofs.Math.Logic.{inl, inr}
@@ -10,16 +10,16 @@ use native.Mathlib.Omega.{arith}
 use Rattle.std.proofs.Math.Decide.{ℕ_discrete}
 use Rattle.std.proofs.Math.Dec.{eqb}
 use Rattle.std.proofs.Math.ListN.{length}
-use Rattle.basics.specs.Choice.{if◌then◌else◌, clash, neither}
+use Rattle.basics.specs.Choice.{clash, neither}
 use Rattle.basics.specs.Arrays.{put, length-put, length-mapped}
 use Rattle.ranks.specs.Ranks.{member, with, without}
 use Rattle.ranks.specs.RankLaws.{member-with_same, member-with_other, member-without_same, member-without_other, with-lt, without-lt}
 use Rattle.state.specs.declared.State.{State}
 use Rattle.state.specs.State.{most_jobs, most_objects, mark_words, read, write, certify, mark, declared, holders, holds, most_urgent_holder, is_certified, shares_with_none, holds_already, is_active, is_sleeping}
-use Rattle.state.specs.State.{request_of, request_for, mode_of_request, object_of_request, requested_mode, requested_object, with_sleepers, activate, await, grant, release, fall_asleep, awaken, end_run}
+use Rattle.state.specs.State.{request_of, request_for, mode_of_request, object_of_request, requested_mode, requested_object, with_sleepers, activate, await, grant, fall_asleep, awaken, end_run}
 use Rattle.state.specs.Facts.{Sized, In, Alone, LockFacts, RequestFacts, InOrder, Facts}
 use Rattle.state.specs.Weights.{weight, write_ceiling_of, absolute_ceiling_of}
-use Rattle.state.specs.Holders.{HolderFacts, AboveOthers, holder_facts, own_weight, release_holders, end_run_holders}
+use Rattle.state.specs.Holders.{HolderFacts, AboveOthers, holder_facts, own_weight, end_run_holders}
 use Rattle.state.specs.Modes.{either_mode}
 use Rattle.state.specs.Marks.{length_mark, length-drop}
 use Rattle.state.specs.WellFormedFacts.{held_object}

@@ -1,8 +1,7 @@
 -- The modes that locks are held in. What holds of what is read and of what is written holds of either mode: every law with the mode as
 -- an argument is made of its two cases.
 -- Assumes nothing.
-use Rattle.std.specs.Prelude.{◌≡◌, ◌⊎◌, Bool, true, false, ℕ, eqb}
-use Rattle.basics.specs.Choice.{if◌then◌else◌}
+use Rattle.std.specs.Prelude.{◌≡◌, ◌⊎◌, Bool, true, false, ℕ, eqb, if◌then◌else◌}
 use Rattle.state.specs.State.{read, write, of_mode}
 
 abbrev pub Mode : ℕ → Type 0

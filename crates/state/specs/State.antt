@@ -1,7 +1,7 @@
 -- What a state says, and its changes: the definitions that alone know the layout of the record `State`.
 -- Assumes nothing.
-use Rattle.std.specs.Prelude.{ℕ, zero, suc, ◌+◌, ◌*◌, ◌/◌, ◌%◌, Bool, not, ◌&&◌, ◌||◌, List, [], ◌∷◌, eqb, replicate}
-use Rattle.basics.specs.Choice.{if◌then◌else◌, between}
+use Rattle.std.specs.Prelude.{ℕ, zero, suc, ◌+◌, ◌*◌, ◌/◌, ◌%◌, Bool, not, ◌&&◌, ◌||◌, List, [], ◌∷◌, eqb, replicate, if◌then◌else◌}
+use Rattle.basics.specs.Choice.{between}
 use Rattle.basics.specs.Arrays.{at, put, mapped}
 use Rattle.ranks.specs.Ranks.{member, with, without, union, most_urgent, unions}
 use Rattle.state.specs.declared.Counts.{Counts}

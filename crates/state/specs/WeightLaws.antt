@@ -1,11 +1,10 @@
 -- The laws of ceilings: nobody where no rank is declared, else a declared rank, and none is more urgent. The ranks that a write lock weighs by. The laws of what a lock weighs: how urgent at
 -- least, beside its holder, the jobs that may lock its object and the same job's other lock on it; and nobody at the most.
 -- Assumes nothing.
-use Rattle.std.specs.Prelude.{◌≡◌, refl, Bool, ℕ, ◌≤◌}
+use Rattle.std.specs.Prelude.{◌≡◌, refl, Bool, ℕ, ◌≤◌, if◌then◌else◌}
 use Rattle.std.proofs.Common.{subst, ap}
 use Rattle.std.proofs.Math.Bool.{true, false}
 use native.Mathlib.Omega.{arith}
-use Rattle.basics.specs.Choice.{if◌then◌else◌}
 use Rattle.ranks.specs.Ranks.{first, union}
 use Rattle.ranks.specs.RankLaws.{first-least, first_member, first_empty}
 use Rattle.ranks.specs.UnionLaws.{union_left, union_right, first-union}

@@ -1,7 +1,6 @@
 -- Ceilings, and what a lock weighs (01, "Ceilings"; 02, CR 4 and CR 6).
 -- Assumes nothing.
-use Rattle.std.specs.Prelude.{ℕ, ◌+◌, min}
-use Rattle.basics.specs.Choice.{if◌then◌else◌}
+use Rattle.std.specs.Prelude.{ℕ, ◌+◌, min, if◌then◌else◌}
 use Rattle.ranks.specs.Ranks.{first}
 use Rattle.state.specs.declared.Counts.{Counts}
 use Rattle.state.specs.declared.State.{State}

@@ -1,5 +1,6 @@
 // The lock manager's state, and questions about its parts. Ranks and objects count from 1; rank 1 is the most urgent.
 #![tactic(auto)]
+
 mod limits;
 mod marks;
 mod parts;

@@ -2,7 +2,7 @@
 -- left to be laid behind it, are what was left before it (`advance_lays`).
 -- Assumes nothing.
 use Prim.Native.Nat.{ℕ, zero, suc, ◌+◌, ◌*◌, ◌/◌, ◌%◌, ◌≤◌, min}
-use Rattle.std.specs.Prelude.{◌≡◌, ◌⊎◌, Bool, length, take}
+use Rattle.std.specs.Prelude.{◌≡◌, ◌⊎◌, Bool, length, take, if◌then◌else◌}
 use Rattle.std.proofs.Math.Path.{refl, sym, ap, ap₂}
 use Rattle.std.proofs.Common.{subst, ◌∙◌, inl, inr, arith, zero-add, length-append, length-drop, take-append-drop, length-take-le}
 use Rattle.std.proofs.Math.Bool.{true, false}
@@ -11,7 +11,6 @@ use Rattle.std.proofs.Math.Dec.{eqb}
 use Rattle.std.proofs.Math.ListN.{drop}
 use Rattle.std.proofs.lemmas.List.{drop-append-le}
 use borrow.Author.Tests.{eq-eqb, ne_eqb}
-use Rattle.basics.specs.Choice.{if◌then◌else◌}
 use Rattle.state.specs.declared.State.{State}
 use Rattle.table_bytes.specs.Bytes.{table_length}
 use Rattle.table.specs.declared.TableRead.{TableRead}

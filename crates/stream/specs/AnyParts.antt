@@ -2,10 +2,9 @@
 -- From `advance_lays`: what is laid and what is left to be laid make the whole record at each part. Behind the last part the bench is
 -- settled, so that what is left is the last line.
 -- Assumes nothing.
-use Rattle.std.specs.Prelude.{ℕ, zero, suc, ◌+◌, ◌*◌, ◌/◌, ◌%◌, ◌≤◌, ◌<◌, min, ◌≡◌, refl, ◌⊎◌, List, [], ◌∷◌, ◌++◌, eqb, length, drop}
+use Rattle.std.specs.Prelude.{ℕ, zero, suc, ◌+◌, ◌*◌, ◌/◌, ◌%◌, ◌≤◌, ◌<◌, min, ◌≡◌, refl, ◌⊎◌, List, [], ◌∷◌, ◌++◌, eqb, length, drop, if◌then◌else◌}
 use Rattle.std.proofs.Common.{sym, ap, ap₂, subst, ◌∙◌, inl, inr, append_assoc, append-nil, arith, length-drop, drop-drop, eq-eqb, ne_eqb}
 use Rattle.std.proofs.Math.Decide.{ℕ_discrete}
-use Rattle.basics.specs.Choice.{if◌then◌else◌}
 use Rattle.table_bytes.specs.Decided.{longest_table, cut_header, cut_short}
 use Rattle.table.specs.Reading.{read_table}
 use Rattle.table.specs.Fresh.{read_refusal}

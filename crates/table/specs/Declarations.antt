@@ -2,13 +2,12 @@
 -- object that the table does not have; and the processor of each rank is one of the table's.
 -- Assumes nothing.
 use Prim.Native.Nat.{ℕ, zero, suc, ◌-◌, ◌^◌, ◌≤◌, ◌<◌}
-use Rattle.std.specs.Prelude.{◌≡◌, Bool, true, false, List, drop}
+use Rattle.std.specs.Prelude.{◌≡◌, Bool, true, false, List, drop, if◌then◌else◌}
 use Rattle.std.proofs.Common.{sym, subst, ◌∙◌, arith, pow_pos}
 use Rattle.std.proofs.Math.Decide.{ℕ_discrete}
 use Rattle.std.proofs.Math.ListN.{length, take, length-take, length-drop, get_or-append}
 use Rattle.std.proofs.lemmas.List.{length-replicate}
 use Rattle.std.proofs.Math.Seq.{get_or-take, get_or-drop}
-use Rattle.basics.specs.Choice.{if◌then◌else◌}
 use Rattle.basics.specs.Arrays.{at, put, at-put_same, at-put_other, length-put, at-zeros}
 use Rattle.ranks.specs.Ranks.{with}
 use Rattle.ranks.specs.RankLaws.{with-lt}

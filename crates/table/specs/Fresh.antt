@@ -3,14 +3,14 @@
 -- zeros that it returns on a refusal is never well formed.
 -- Assumes nothing.
 use Prim.Native.Nat.{ℕ, zero, suc, ◌^◌, ◌≤◌}
-use Rattle.std.specs.Prelude.{◌≡◌, Bool, ◌||◌, List, ltb}
+use Rattle.std.specs.Prelude.{◌≡◌, Bool, ◌||◌, List, ltb, if◌then◌else◌}
 use Rattle.std.proofs.Math.Path.{refl, ap}
 use Rattle.std.proofs.Common.{sym, subst, ◌∙◌, arith, pow_pos}
 use Rattle.std.proofs.Math.Bool.{true, false}
 use Rattle.std.proofs.Math.Decide.{dec_le}
 use Rattle.std.proofs.Math.Dec.{eqb}
 use borrow.Author.Tests.{lt-ltb, eqb-true, eq-eqb, ne_eqb}
-use Rattle.basics.specs.Choice.{if◌then◌else◌, and_true, or_right, inside_between}
+use Rattle.basics.specs.Choice.{and_true, or_right, inside_between}
 use Rattle.basics.specs.Loops.{every, every_true}
 use Rattle.basics.specs.Arrays.{at, at-zeros}
 use Rattle.ranks.specs.Ranks.{member, union, unions}

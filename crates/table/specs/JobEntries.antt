@@ -1,7 +1,7 @@
 -- One job's entries (01, "Table bytes"): "One reading call hands back the part of the table bytes that holds one job's entries, empty if it has none."
 -- Assumes nothing.
-use Rattle.std.specs.Prelude.{ℕ, zero, suc, not, List, [], take, drop, eqb}
-use Rattle.basics.specs.Choice.{if◌then◌else◌, ◌if◌else◌, ◌or_else◌, between}
+use Rattle.std.specs.Prelude.{ℕ, zero, suc, not, List, [], take, drop, eqb, if◌then◌else◌}
+use Rattle.basics.specs.Choice.{◌if◌else◌, ◌or_else◌, between}
 use Rattle.basics.specs.Loops.{joined}
 use Rattle.table_bytes.specs.Bytes.{jobs_in, entry_rank, entry_start, entry_count}
 use Rattle.table_bytes.specs.Refusals.{table_refusal}

@@ -1,7 +1,6 @@
 -- What the table reader returns: refusal, bytes used, state (01, "Table bytes" and "Refusals").
 -- Assumes nothing.
-use Rattle.std.specs.Prelude.{ℕ, zero, suc, ◌-◌, Bool, ◌||◌, List, ◌++◌, take, drop, eqb}
-use Rattle.basics.specs.Choice.{if◌then◌else◌}
+use Rattle.std.specs.Prelude.{ℕ, zero, suc, ◌-◌, Bool, ◌||◌, List, ◌++◌, take, drop, eqb, if◌then◌else◌}
 use Rattle.basics.specs.Arrays.{at, put}
 use Rattle.ranks.specs.Ranks.{with}
 use Rattle.state.specs.declared.State.{State}

@@ -1,5 +1,6 @@
 // Table bytes read: the fresh state that they declare, and one job's entries.
 #![tactic(auto)]
+
 ghost use Rattle.std.specs.Prelude.{◌≡◌};
 ghost use Rattle.state.specs.State.{fresh_state, zero_state};
 ghost use Rattle.table_bytes.specs.Refusals.{table_refusal};

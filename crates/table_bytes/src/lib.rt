@@ -1,5 +1,6 @@
 // Table bytes: where their parts stand, and the refusals 1 to 7.
 #![tactic(auto)]
+
 mod bytes;
 mod table_refusals;
 

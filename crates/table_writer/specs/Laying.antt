@@ -1,7 +1,6 @@
 -- The table's parts as they are laid: over any mode for each rank and object, over the arrays of a state, and over a buffer.
 -- Assumes nothing.
-use Rattle.std.specs.Prelude.{ℕ, ◌+◌, List, [], ◌++◌, length, take, drop}
-use Rattle.basics.specs.Choice.{if◌then◌else◌}
+use Rattle.std.specs.Prelude.{ℕ, ◌+◌, List, [], ◌++◌, length, take, drop, if◌then◌else◌}
 use Rattle.basics.specs.Loops.{joined, sum}
 use Rattle.basics.specs.Arrays.{at}
 use Rattle.ranks.specs.Ranks.{member, union, size}

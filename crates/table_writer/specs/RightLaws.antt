@@ -1,14 +1,13 @@
 -- An entry's mode and the rights it gives; what one entry that is read adds to the declared sets: its rank at its object, in the modes
 -- that it gives a right to, and nothing else.
 -- Assumes nothing.
-use Rattle.std.specs.Prelude.{◌≡◌, ◌≢◌, Bool, ◌||◌, List, ℕ, zero, suc, ◌+◌, ◌≤◌}
+use Rattle.std.specs.Prelude.{◌≡◌, ◌≢◌, Bool, ◌||◌, List, ℕ, zero, suc, ◌+◌, ◌≤◌, if◌then◌else◌}
 use Rattle.std.proofs.Math.Path.{refl}
 use Rattle.std.proofs.Common.{ap, subst, ◌∙◌, arith}
 use Rattle.std.proofs.Math.Bool.{true, false}
 use Rattle.std.proofs.Math.Decide.{ℕ_discrete}
 use Rattle.std.proofs.Math.ListN.{length}
 use Rattle.std.proofs.lemmas.List.{length-replicate}
-use Rattle.basics.specs.Choice.{if◌then◌else◌}
 use Rattle.basics.specs.Arrays.{at, put, at-put_same, at-put_other, length-put}
 use Rattle.ranks.specs.Ranks.{member, with}
 use Rattle.ranks.specs.RankLaws.{member-with_same, member-with_other}

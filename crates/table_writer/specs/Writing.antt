@@ -1,8 +1,8 @@
 -- The bytes of a state's table, and what the table writer answers and leaves in the lent buffer (01, "Table bytes"):
 -- "The writer lays a state's table into a lent buffer, answers its length, and leaves the rest of that buffer untouched."
 -- Assumes nothing.
-use Rattle.std.specs.Prelude.{ℕ, zero, suc, ◌+◌, ◌/◌, ◌%◌, not, List, [], ◌∷◌, ◌++◌, length, take, drop, eqb, ltb}
-use Rattle.basics.specs.Choice.{if◌then◌else◌, ◌if◌else◌}
+use Rattle.std.specs.Prelude.{ℕ, zero, suc, ◌+◌, ◌/◌, ◌%◌, not, List, [], ◌∷◌, ◌++◌, length, take, drop, eqb, ltb, if◌then◌else◌}
+use Rattle.basics.specs.Choice.{◌if◌else◌}
 use Rattle.basics.specs.Loops.{joined}
 use Rattle.basics.specs.Replies.{Reply, refused, told}
 use Rattle.state.specs.declared.State.{State}

@@ -1,6 +1,5 @@
 // The parts of a table laid into a buffer, and the table made of them.
-ghost use Rattle.std.specs.Prelude.{◌≡◌, ◌+◌, ◌*◌, ◌≤◌, length, take};
-ghost use Rattle.basics.specs.Choice.{if◌then◌else◌};
+ghost use Rattle.std.specs.Prelude.{◌≡◌, ◌+◌, ◌*◌, ◌≤◌, length, take, if◌then◌else◌};
 ghost use Rattle.state.specs.State.{most_objects, most_jobs};
 ghost use Rattle.table_writer.specs.Writing.{word_bytes, entry_bytes};
 ghost use Rattle.table_writer.specs.Laying.{declared_mode_of, declared_modes, entries_of_rank, entries_of_ranks, header_of, table_of, laid};

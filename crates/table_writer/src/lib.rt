@@ -1,5 +1,6 @@
 // A state's table written into a lent buffer.
 #![tactic(auto)]
+
 ghost use Rattle.std.specs.Prelude.{◌≡◌};
 ghost use Rattle.state.specs.Facts.{Sized};
 ghost use Rattle.table_writer.specs.Answers.{written_reply};

@@ -2,13 +2,12 @@
 -- `table::job_entries` hands back (`part_there`: those bytes are that part).
 -- Assumes nothing.
 use Prim.Native.Nat.{ℕ, zero, suc, ◌+◌, ◌-◌, ◌*◌, ◌≤◌, ◌<◌}
-use Rattle.std.specs.Prelude.{◌≡◌, Bool, true, false, eqb, ltb, drop}
+use Rattle.std.specs.Prelude.{◌≡◌, Bool, true, false, eqb, ltb, drop, if◌then◌else◌}
 use Rattle.std.proofs.Math.Path.{refl, sym, ap}
 use Rattle.std.proofs.Common.{◌∙◌, ⊎_elim, arith, add-one, le_refl, eq-or-lt_of_le, ltb-true, ltb-false, eq-eqb, ne_eqb, length-take-le}
 use mathlib.Core.List.{List}
 use Rattle.std.proofs.Math.Decide.{dec_le}
 use Rattle.std.proofs.Math.ListN.{length, take, length-drop}
-use Rattle.basics.specs.Choice.{if◌then◌else◌}
 use Rattle.basics.specs.Loops.{one_if}
 use Rattle.table_bytes.specs.Bytes.{entry_rank, entry_count, entry_start}
 use Rattle.table_bytes.specs.AcceptedTable.{AcceptedTable, accepted_table}

@@ -1,8 +1,7 @@
 -- What the table calls of the C interface answer and leave in lent memory: a refusal's number, or 0 and the values; a refusal leaves every lent byte as it was.
 -- Assumes nothing.
-use Rattle.std.specs.Prelude.{ℕ, ◌≡◌, eqb}
+use Rattle.std.specs.Prelude.{ℕ, ◌≡◌, eqb, if◌then◌else◌}
 use Rattle.std.proofs.Common.{eq-eqb, ne_eqb}
-use Rattle.basics.specs.Choice.{if◌then◌else◌}
 use Rattle.state.specs.declared.State.{State}
 use Rattle.table.specs.declared.TableRead.{TableRead}
 

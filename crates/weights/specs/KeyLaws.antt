@@ -1,7 +1,7 @@
 -- What the lowest key says of each lock, by any rule of weighing: it is at most the key of each lock that another job holds, and it is the key of
 -- one of them, or none's. So it is the greatest number that is at most each of those keys.
 -- Assumes nothing.
-use Rattle.std.specs.Prelude.{◌≡◌, ◌≢◌, ◌⊎◌, Bool, ◌&&◌}
+use Rattle.std.specs.Prelude.{◌≡◌, ◌≢◌, ◌⊎◌, Bool, ◌&&◌, if◌then◌else◌}
 use Rattle.std.proofs.Math.Path.{refl}
 use Rattle.std.proofs.Common.{ap, ◌∙◌, le_antisymm, arith}
 use Rattle.std.proofs.Math.Logic.{inl, inr}
@@ -11,7 +11,6 @@ use Rattle.std.proofs.Math.Nat.{le_trans}
 use Rattle.std.proofs.Math.Decide.{dec_le}
 use Rattle.std.proofs.Math.Dec.{eqb}
 use borrow.Author.Tests.{eqb-false, ne_eqb}
-use Rattle.basics.specs.Choice.{if◌then◌else◌}
 use Rattle.basics.specs.Loops.{least, least_top, least-le, least_at}
 use Rattle.state.specs.declared.State.{State}
 use Rattle.state.specs.State.{most_jobs, most_objects, read, write, holds}

@@ -1,9 +1,8 @@
 -- The key of a lock: weight, then holder, then object, as one number, so that the lock with the most urgent weight,
 -- "ties going to the lowest rank number and then the lowest object number", is the one with the lowest key.
 -- Assumes nothing.
-use Rattle.std.specs.Prelude.{ℕ, ◌+◌, ◌*◌, ◌/◌, ◌%◌, ◌<◌, min, not, ◌&&◌, eqb}
+use Rattle.std.specs.Prelude.{ℕ, ◌+◌, ◌*◌, ◌/◌, ◌%◌, ◌<◌, min, not, ◌&&◌, eqb, if◌then◌else◌}
 use Rattle.std.proofs.Common.{arith}
-use Rattle.basics.specs.Choice.{if◌then◌else◌}
 use Rattle.basics.specs.Loops.{least}
 use Rattle.state.specs.declared.State.{State}
 use Rattle.state.specs.State.{most_jobs, read, write, holds}

@@ -1,8 +1,7 @@
 -- The key of a rank's lock on an object and what a write lock weighs, by the table's counts, the object's sets of ranks and whether its write lock
 -- shares with none.
 -- Assumes nothing.
-use Rattle.std.specs.Prelude.{Bool, ℕ}
-use Rattle.basics.specs.Choice.{if◌then◌else◌}
+use Rattle.std.specs.Prelude.{Bool, ℕ, if◌then◌else◌}
 use Rattle.ranks.specs.Ranks.{member, union}
 use Rattle.state.specs.declared.Counts.{Counts}
 use Rattle.state.specs.Weights.{ceiling_of}

@@ -1,6 +1,7 @@
 // Ceilings, what a lock weighs, and the key that orders locks: the lock that stops a request has the lowest.
 // A function sees the parts of a state that it asks about: an object's sets of ranks by value, an object's array by reference.
 #![tactic(auto)]
+
 ghost use Rattle.std.specs.Prelude.{◌≡◌, ◌||◌, ℕ, ◌≤◌, min, eqb};
 ghost use Rattle.ranks.specs.Ranks.{first, union};
 ghost use Rattle.state.specs.State.{most_jobs, most_objects, marked};

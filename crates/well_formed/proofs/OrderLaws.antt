@@ -11,7 +11,8 @@ use native.Mathlib.Decide.{dec_le}
 use lib.Dec.{eqb, ltb}
 use lib.Bits.{bit_and, and_zero_l, and_zero_r}
 use borrow.Author.Tests.{eqb-true, eq-eqb, ltb-true, ltb-false, lt-ltb, le-ltb, not-true}
-use Rattle.basics.specs.Choice.{if◌then◌else◌, same_test, and_true, and_left, and_right}
+use Rattle.std.specs.Prelude.{if◌then◌else◌}
+use Rattle.basics.specs.Choice.{same_test, and_true, and_left, and_right}
 use Rattle.basics.specs.Loops.{every, every-at, every_true, every-and, every_split}
 use Rattle.basics.specs.Arrays.{at}
 use Rattle.ranks.specs.Ranks.{word_bits, is_empty, member, first, union, but_first, disjoint, before, unions}

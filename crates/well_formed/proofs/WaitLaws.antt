@@ -8,7 +8,8 @@ use Prim.Native.Nat.{ℕ, suc, ◌+◌, ◌-◌, ◌≤◌}
 use native.Mathlib.Omega.{arith}
 use lib.ListN.{get_or}
 use borrow.Author.Tests.{eq-eqb, ne_eqb}
-use Rattle.basics.specs.Choice.{if◌then◌else◌, between}
+use Rattle.std.specs.Prelude.{if◌then◌else◌}
+use Rattle.basics.specs.Choice.{between}
 use Rattle.basics.specs.Arrays.{at, at_index}
 use Rattle.basics.specs.Loops.{every, every_same, every-and}
 use Rattle.state.specs.declared.State.{State}

@@ -1,9 +1,8 @@
 -- What the code gathers for the test of a state: of one object, of many objects together, of those outside the table, of the certified objects, and of one request.
 -- Assumes nothing.
-use Rattle.std.specs.Prelude.{ℕ, ◌+◌, ◌*◌, ◌/◌, ◌≡◌, Bool, true, not, ◌&&◌, ◌||◌, List, eqb}
+use Rattle.std.specs.Prelude.{ℕ, ◌+◌, ◌*◌, ◌/◌, ◌≡◌, Bool, true, not, ◌&&◌, ◌||◌, List, eqb, if◌then◌else◌}
 use Rattle.basics.specs.Arrays.{at}
 use Rattle.basics.specs.Loops.{every}
-use Rattle.basics.specs.Choice.{if◌then◌else◌}
 use Rattle.ranks.specs.Ranks.{is_empty, member, union, minus, but_first, subset, disjoint, at_most_one, before, unions}
 use Rattle.state.specs.State.{certify, of_mode, marked, already_in}
 use Rattle.state.specs.WellFormed.{alone}

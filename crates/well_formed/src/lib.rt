@@ -1,5 +1,6 @@
 // The test whether a state is well formed: refusal 8.
 #![tactic(auto)]
+
 ghost use Rattle.std.specs.Prelude.{◌≡◌, ◌&&◌, eqb, length};
 ghost use Rattle.state.specs.State.{most_jobs, most_objects, mark_words, state_of};
 ghost use Rattle.state.specs.WellFormed.{well_formed};

@@ -2,16 +2,15 @@
 -- Assumes nothing.
 use mathlib.Core.Path.{◌≡◌, refl, sym, ap, ◌∙◌}
 use mathlib.Core.Bool.{Bool, true, false, ◌&&◌, and-false}
-use Prim.Native.Nat.{ℕ, ◌+◌, ◌-◌, ◌≤◌}
+use Prim.Native.Nat.{ℕ, ◌+◌}
 use native.Mathlib.Omega.{arith}
 use lib.Dec.{ltb}
 use lib.ListN.{length}
-use borrow.Author.Tests.{not-true, not-false, lt-ltb, le-ltb}
+use borrow.Author.Tests.{lt-ltb, le-ltb}
 use Rattle.basics.specs.Choice.{and_true}
 use Rattle.basics.specs.Loops.{every, every_more, every_false}
 use Rattle.basics.specs.Arrays.{at, at_next}
 use Rattle.arguments.specs.Numbers.{is_digit, is_decimal}
-use borrow.Author.Rules.{rules}
 use Rattle.arguments.proofs.is_decimal.Goals as goal
 
 pub returns-then-text-eq0 : goal.returns-then-text-eq0

@@ -1,17 +1,12 @@
 -- `arguments::is_decimal` meets its contract. The loop's invariant: the bytes passed are digits. It ends because the bytes left fall.
 -- Assumes nothing.
-use mathlib.Core.Path.{◌≡◌, refl, sym, ap, ◌∙◌}
-use mathlib.Core.Bool.{Bool, true, false, ◌&&◌, and-false}
-use Prim.Native.Nat.{ℕ, ◌+◌, ◌-◌, ◌≤◌}
-use native.Mathlib.Omega.{arith}
-use lib.Dec.{ltb}
+use mathlib.Core.Path.{◌≡◌}
+use mathlib.Core.Bool.{true}
+use Prim.Native.Nat.{◌-◌, ◌≤◌}
 use lib.ListN.{length}
-use borrow.Author.Tests.{not-true, not-false, lt-ltb, le-ltb}
-use Rattle.basics.specs.Choice.{and_true}
-use Rattle.basics.specs.Loops.{every, every_more, every_false}
-use Rattle.basics.specs.Arrays.{at, at_next}
-use Rattle.arguments.specs.Numbers.{is_digit, is_decimal}
-use borrow.Author.Rules.{rules}
+use Rattle.basics.specs.Loops.{every}
+use Rattle.basics.specs.Arrays.{at}
+use Rattle.arguments.specs.Numbers.{is_digit}
 use Rattle.arguments.proofs.is_decimal.Given as goal
 
 abbrev pub invariant-loop-i : goal.invariant-loop-i

@@ -1,9 +1,7 @@
 -- `arguments::number_in` meets its contract: a text that is not decimal digits alone says no number, and of any other `value_of` gives it.
 -- Assumes nothing.
 use mathlib.Core.Path.{sym, ◌∙◌}
-use borrow.Author.Tests.{not-true, not-false}
 use Rattle.arguments.specs.Numbers.{number_in}
-use borrow.Author.Rules.{rules}
 use Rattle.arguments.proofs.number_in.Goals as goal
 
 pub returns-then-not-is_decimal : goal.returns-then-not-is_decimal

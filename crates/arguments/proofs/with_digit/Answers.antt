@@ -2,9 +2,7 @@
 -- Assumes nothing.
 use mathlib.Core.Path.{sym}
 use native.Mathlib.Omega.{arith}
-use Rattle.basics.specs.Choice.{between_true}
 use Rattle.arguments.specs.Numbers.{at_most_value, at_most_invalid}
-use borrow.Author.Rules.{rules}
 use Rattle.arguments.proofs.with_digit.Goals as goal
 
 pub returns-then-units-most : goal.returns-then-units-most

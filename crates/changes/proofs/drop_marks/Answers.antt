@@ -4,7 +4,6 @@ use Prim.Native.Nat.{ℕ}
 use mathlib.Core.Path.{ap₂}
 use mathlib.Core.List.{[], ◌∷◌}
 use Rattle.state.specs.State.{drop_marks}
-use borrow.Author.Rules.{rules}
 use Rattle.changes.proofs.drop_marks.Goals as goal
 
 pub returns : goal.returns

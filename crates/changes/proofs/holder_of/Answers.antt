@@ -7,7 +7,6 @@ use Rattle.basics.specs.Arrays.{at}
 use Rattle.ranks.specs.Ranks.{union, unions, most_urgent}
 use Rattle.ranks.specs.UnionLaws.{unions_both}
 use Rattle.state.specs.State.{most_objects, all_holders}
-use borrow.Author.Rules.{rules}
 use Rattle.changes.proofs.holder_of.Goals as goal
 
 pub returns : goal.returns

@@ -3,14 +3,12 @@
 -- Assumes nothing.
 use Prim.Native.Nat.{ℕ, suc, ◌+◌, ◌-◌}
 use mathlib.Core.Path.{◌≡◌, sym, subst, ap, ◌∙◌}
-use mathlib.Core.Logic.{inl, inr}
 use native.Mathlib.Omega.{arith}
-use borrow.Author.Tests.{eqb-true, not-true, not-false}
+use borrow.Author.Tests.{eqb-true}
 use Rattle.basics.specs.Arrays.{at}
 use Rattle.ranks.specs.Ranks.{member, without, first}
 use Rattle.ranks.specs.RankLaws.{first_pos, first-le, first_there, first-without}
-use Rattle.changes.proofs.Dropping.{Kept, all_left, one_dropped, one_kept, none_left}
-use borrow.Author.Rules.{rules}
+use Rattle.changes.proofs.Dropping.{Kept, one_dropped, one_kept, none_left}
 use Rattle.changes.proofs.kept_in.Goals as goal
 use Rattle.changes.proofs.kept_in.Goals.{then-contains, else-contains}
 

@@ -7,7 +7,6 @@ use lib.ListN.{get_or, set}
 use Rattle.ranks.specs.Ranks.{with}
 use Rattle.state.specs.State.{mark, word_of, place_of}
 use Rattle.changes.proofs.Elements.{changed}
-use borrow.Author.Rules.{rules}
 use Rattle.changes.proofs.mark_object.Goals as goal
 
 pub returns : goal.returns

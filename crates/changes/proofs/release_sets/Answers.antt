@@ -1,7 +1,7 @@
 -- `changes::release_sets` meets its contract. The loop's invariant: the first i sets are without the rank, the others as they were, and `left` has the ranks
 -- of the first i. It ends because what is left of the sets falls.
 -- Assumes nothing.
-use Prim.Native.Nat.{ℕ, suc, ◌+◌, ◌-◌, ◌≤◌}
+use Prim.Native.Nat.{ℕ, suc, ◌+◌}
 use mathlib.Core.Path.{◌≡◌, refl, sym, ap, ap₂, ◌∙◌}
 use mathlib.Core.List.{List}
 use native.Mathlib.Omega.{arith}
@@ -9,8 +9,6 @@ use lib.ListN.{get_or, set}
 use Rattle.basics.specs.Arrays.{at, mapped, mapped_more, mapped_rest, at_next}
 use Rattle.ranks.specs.Ranks.{without, union, unions}
 use Rattle.ranks.specs.UnionLaws.{unions_next}
-use Rattle.state.specs.State.{most_objects}
-use borrow.Author.Rules.{rules}
 use Rattle.changes.proofs.release_sets.Goals as goal
 
 pub loop-i-init : goal.loop-i-init

@@ -1,16 +1,11 @@
 -- `changes::release_sets` meets its contract. The loop's invariant: the first i sets are without the rank, the others as they were, and `left` has the ranks
 -- of the first i. It ends because what is left of the sets falls.
 -- Assumes nothing.
-use Prim.Native.Nat.{ℕ, suc, ◌+◌, ◌-◌, ◌≤◌}
-use mathlib.Core.Path.{◌≡◌, refl, sym, ap, ap₂, ◌∙◌}
-use mathlib.Core.List.{List}
-use native.Mathlib.Omega.{arith}
-use lib.ListN.{get_or, set}
-use Rattle.basics.specs.Arrays.{at, mapped, mapped_more, mapped_rest, at_next}
-use Rattle.ranks.specs.Ranks.{without, union, unions}
-use Rattle.ranks.specs.UnionLaws.{unions_next}
+use Prim.Native.Nat.{◌-◌, ◌≤◌}
+use mathlib.Core.Path.{◌≡◌}
+use Rattle.basics.specs.Arrays.{at, mapped}
+use Rattle.ranks.specs.Ranks.{without, unions}
 use Rattle.state.specs.State.{most_objects}
-use borrow.Author.Rules.{rules}
 use Rattle.changes.proofs.release_sets.Given as goal
 
 abbrev pub invariant-loop-i : goal.invariant-loop-i

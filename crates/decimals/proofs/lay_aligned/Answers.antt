@@ -8,7 +8,6 @@ use native.Mathlib.Omega.{arith}
 use Rattle.decimals.specs.Decimal.{digit}
 use Rattle.decimals.specs.Fields.{aligned_three}
 use Rattle.decimals.specs.Laid.{laid_is}
-use borrow.Author.Rules.{rules}
 use Rattle.decimals.proofs.lay_aligned.Goals as goal
 
 pub returns : goal.returns

@@ -5,7 +5,6 @@ use native.Mathlib.Omega.{arith}
 use lib.ListN.{length}
 use Rattle.decimals.specs.Decimal.{decimal_one, decimal_two, decimal_three}
 use Rattle.decimals.specs.Laid.{laid_then, laid_is}
-use borrow.Author.Rules.{rules}
 use Rattle.decimals.proofs.lay_below_thousand.Goals as goal
 
 pub lay_byte-requires : goal.lay_byte-requires

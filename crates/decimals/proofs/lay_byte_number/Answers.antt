@@ -4,7 +4,6 @@ use mathlib.Core.Path.{refl}
 use native.Mathlib.Omega.{arith}
 use Rattle.decimals.specs.Decimal.{byte_length}
 use Rattle.decimals.specs.Laid.{laid_is}
-use borrow.Author.Rules.{rules}
 use Rattle.decimals.proofs.lay_byte_number.Goals as goal
 
 pub lay_below_thousand-requires : goal.lay_below_thousand-requires

@@ -4,7 +4,6 @@ use mathlib.Core.Path.{refl}
 use native.Mathlib.Omega.{arith}
 use Rattle.decimals.specs.Decimal.{word_length}
 use Rattle.decimals.specs.Laid.{laid_is}
-use borrow.Author.Rules.{rules}
 use Rattle.decimals.proofs.lay_number.Goals as goal
 
 pub lay_digits-requires : goal.lay_digits-requires

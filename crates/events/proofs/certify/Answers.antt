@@ -9,7 +9,6 @@ use Rattle.state.specs.declared.State.{State}
 use Rattle.state.specs.State.{most_jobs, most_objects, state_of}
 use Rattle.refusals.specs.Accepting.{accepted_numbers}
 use Rattle.refusals.specs.Refusals.{event_refusal}
-use Rattle.events.specs.Events as E
 use Rattle.events.proofs.EventLaws as L
 use mathlib.Core.Path.{refl}
 use Rattle.events.proofs.certify.Goals as goal

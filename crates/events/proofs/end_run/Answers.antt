@@ -6,7 +6,6 @@ use Rattle.state.specs.State.{state_of, end_run}
 use Rattle.refusals.specs.Accepting.{RequestsFit}
 use Rattle.events.specs.Events as E
 use Rattle.events.proofs.EventLaws as L
-use borrow.Author.Rules.{rules}
 use Rattle.events.proofs.end_run.Goals as goal
 
 pub wake-requires : goal.wake-requires

@@ -7,7 +7,6 @@ use native.Mathlib.Omega.{arith}
 use Rattle.state.specs.declared.State.{State}
 use Rattle.state.specs.State.{state_of}
 use Rattle.refusals.specs.Accepting.{accepted_numbers}
-use Rattle.events.specs.Events as E
 use Rattle.events.proofs.EventLaws as L
 use Rattle.events.proofs.finish.Goals as goal
 use Rattle.events.proofs.finish.Goals.{Start}

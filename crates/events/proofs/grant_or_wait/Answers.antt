@@ -5,10 +5,10 @@ use mathlib.Core.Bool.{◌||◌}
 use lib.Dec.{eqb}
 use Rattle.state.specs.State.{marked}
 use mathlib.Core.Path.{◌≡◌, sym, ap, ◌∙◌}
-use Prim.Native.Nat.{ℕ, ◌≤◌}
+use Prim.Native.Nat.{ℕ}
 use native.Mathlib.Omega.{arith}
 use Rattle.basics.specs.Arrays.{at, put}
-use Rattle.state.specs.State.{most_jobs, most_objects, state_of, grant_readers, grant_writers, grant_marks, grant, await}
+use Rattle.state.specs.State.{state_of, grant_readers, grant_writers, grant_marks, grant, await}
 use Rattle.state.specs.Weights.{ceiling_of, weight}
 use Rattle.weights.specs.Keys.{key_holder, key_object}
 use Rattle.rule.specs.Granting.{reason, reason_of}
@@ -17,7 +17,6 @@ use Rattle.rule.specs.Parts.{reason_parts}
 use Rattle.events.specs.declared.Answer.TheVariants.{Granted, Waits}
 use Rattle.events.specs.Events.{outcome}
 use Rattle.events.proofs.EventLaws as L
-use borrow.Author.Rules.{rules}
 use Rattle.events.proofs.grant_or_wait.Goals as goal
 
 pub deciding_key-key-requires : goal.deciding_key-key-requires

@@ -9,9 +9,7 @@ use Rattle.state.specs.declared.State.{State}
 use Rattle.state.specs.State.{most_jobs, most_objects, state_of}
 use Rattle.refusals.specs.Accepting.{accepted_numbers}
 use Rattle.refusals.specs.Refusals.{event_refusal}
-use Rattle.events.specs.Events as E
 use Rattle.events.proofs.EventLaws as L
-use borrow.Author.Rules.{rules}
 use Rattle.events.proofs.lock.Goals as goal
 use Rattle.events.proofs.lock.Goals.{Start}
 

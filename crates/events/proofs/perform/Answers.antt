@@ -1,15 +1,13 @@
 -- `events::perform` meets its contract: each arm is the rule of its kind, and an event of any other kind is refused by 9.
 -- Assumes nothing.
-use mathlib.Core.Path.{◌≡◌, sym, ap, ◌∙◌}
+use mathlib.Core.Path.{◌≡◌, ap}
 use mathlib.Core.Bool.{false}
 use Prim.Native.Nat.{ℕ, ◌≤◌}
 use native.Mathlib.Omega.{arith}
 use borrow.Author.Tests.{le-leb, lt-leb}
 use Rattle.basics.specs.Choice.{between}
 use Rattle.state.specs.State.{state_of}
-use Rattle.events.specs.Events as E
 use Rattle.events.proofs.EventLaws as L
-use borrow.Author.Rules.{rules}
 use Rattle.events.proofs.perform.Goals as goal
 
 -- a kind past 9 is none of the nine

@@ -7,7 +7,7 @@ use Prim.Native.Nat.{ℕ, ◌≤◌}
 use native.Mathlib.Omega.{arith}
 use lib.Dec.{eqb}
 use borrow.Author.Tests.{eq-eqb, ne_eqb}
-use Rattle.basics.specs.Choice.{if◌then◌else◌}
+use Rattle.std.specs.Prelude.{if◌then◌else◌}
 use Rattle.state.specs.declared.State.{State}
 use Rattle.state.specs.State.{most_jobs, state_of, with_sleepers, fall_asleep, awaken}
 use Rattle.refusals.specs.Refusals.{event_refusal}
@@ -16,7 +16,6 @@ use Rattle.events.specs.declared.Outcome.{Outcome}
 use Rattle.events.specs.declared.Answer.TheVariants.{Done}
 use Rattle.events.specs.Events.{outcome, perform}
 use Rattle.events.proofs.EventLaws as L
-use borrow.Author.Rules.{rules}
 use Rattle.events.proofs.sleep_or_awaken.Goals as goal
 use Rattle.events.proofs.sleep_or_awaken.Goals.{Start}
 

@@ -9,7 +9,6 @@ use Rattle.refusals.specs.Accepting.{accepted_numbers}
 use Rattle.events.specs.declared.Answer.TheVariants.{Done}
 use Rattle.events.specs.Events.{outcome}
 use Rattle.events.proofs.EventLaws as L
-use borrow.Author.Rules.{rules}
 use Rattle.events.proofs.start.Goals as goal
 
 pub returns-then-number-ne0 : goal.returns-then-number-ne0

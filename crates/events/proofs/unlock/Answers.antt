@@ -12,7 +12,6 @@ use Rattle.refusals.specs.Accepting.{accepted_numbers}
 use Rattle.refusals.specs.Refusals.{event_refusal}
 use Rattle.events.specs.Events as E
 use Rattle.events.proofs.EventLaws as L
-use borrow.Author.Rules.{rules}
 use Rattle.events.proofs.unlock.Goals as goal
 use Rattle.events.proofs.unlock.Goals.{then-holder-rank, else-holder-rank, Start}
 

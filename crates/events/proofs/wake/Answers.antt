@@ -1,9 +1,8 @@
 -- `events::wake` meets its contract: whoever is found waits, so its request is for an object that the arrays have.
 -- Assumes nothing.
 use mathlib.Core.Path.{◌≡◌, sym, ap, ap₂, subst, ◌∙◌}
-use Prim.Native.Nat.{ℕ, ◌-◌, ◌≤◌}
+use Prim.Native.Nat.{ℕ, ◌≤◌}
 use native.Mathlib.Omega.{arith}
-use lib.ListN.{get_or}
 use Rattle.std.specs.Prelude.{◌≢◌}
 use Rattle.basics.specs.Arrays.{at, put, at_index}
 use Rattle.state.specs.State.{most_jobs, most_objects, state_of, mode_of_request, object_of_request, requested_mode, requested_object, grant_readers, grant_writers, grant_marks, grant}
@@ -15,7 +14,6 @@ use Rattle.events.specs.declared.Answer.TheVariants.{Done}
 use Rattle.events.specs.Events.{outcome}
 use Rattle.rule.specs.WakeLaws.{woken_waits}
 use Rattle.events.proofs.EventLaws as L
-use borrow.Author.Rules.{rules}
 use Rattle.events.proofs.wake.Goals as goal
 
 -- whoever is found is a rank, and waits for an object that the arrays have

@@ -1,5 +1,5 @@
 -- `generator::lay_event` meets its contract: three steps, a number drawn after each, and the three bytes that they give. Assumes nothing.
-use Rattle.std.proofs.Common.{◌≡◌, [], ◌∷◌, ap, ◌∙◌, arith, rules}
+use Rattle.std.proofs.Common.{◌≡◌, [], ◌∷◌, ap, ◌∙◌, arith}
 use lib.Seq.{sets}
 use Rattle.generator.specs.Load.{step, drawn, kind_from, rank_from, object_from, event_from}
 use Rattle.generator.proofs.lay_event.Goals as goal

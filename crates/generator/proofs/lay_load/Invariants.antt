@@ -1,9 +1,8 @@
 -- `generator::lay_load` meets its contract. The loop's invariant: the events made so far stand at the front, and the seed is the one behind them. A turn lays
 -- one event more behind them. It ends because the events left fall. Assumes nothing.
-use Rattle.std.proofs.Common.{◌≡◌, ℕ, ◌+◌, ◌-◌, ◌*◌, ◌≤◌, ◌++◌, sym, refl, ap, ◌∙◌, arith, rules}
-use Rattle.decimals.specs.Laid.{Laid, at_front, laid_then, laid_is, laid_length, laid_at_front}
-use Rattle.generator.specs.Load.{step, event_from, seed_after, load}
-use Rattle.generator.proofs.LoadLaws.{load_length, seed_more, load_more}
+use Rattle.std.proofs.Common.{◌≡◌, ◌-◌, ◌*◌, ◌≤◌}
+use Rattle.decimals.specs.Laid.{Laid}
+use Rattle.generator.specs.Load.{seed_after, load}
 use Rattle.generator.proofs.lay_load.Given as goal
 
 abbrev pub invariant-loop-made : goal.invariant-loop-made

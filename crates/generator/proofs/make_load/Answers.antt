@@ -1,11 +1,9 @@
 -- `generator::make_load` meets its contract: refused by 8 where the test of the state fails, then by 23 where a third of the buffer is less than the count, which
 -- is just where the buffer is shorter than three times the count; else the load is laid at the front.
 -- Assumes nothing.
-use Rattle.std.proofs.Common.{◌≡◌, ℕ, true, sym, ap, ◌∙◌, arith, rules}
-use borrow.Author.Tests.{not-true, not-false}
+use Rattle.std.proofs.Common.{ℕ, sym, ap, ◌∙◌, arith}
 use Rattle.state.specs.declared.State.{State}
 use Rattle.state.specs.State.{state_of}
-use Rattle.state.specs.WellFormed.{well_formed}
 use Rattle.state.specs.Clauses.{clauses, counts_within_lem}
 use Rattle.generator.specs.declared.Made.{Made}
 use Rattle.generator.proofs.LoadLaws.{refused_by_8, refused_by_23, made}

@@ -1,5 +1,5 @@
 -- `generator::step` meets its contract: a sum modulo 2^32 is the same whether the product was taken modulo 2^32 before or not. Assumes nothing.
-use Rattle.std.proofs.Common.{arith, rules}
+use Rattle.std.proofs.Common.{arith}
 use Rattle.generator.specs.Load as L
 use Rattle.generator.proofs.step.Goals as goal
 

@@ -1,9 +1,8 @@
 -- `inheritance::inherited_by` meets its contract. The loop's invariant: `inherited` is the most urgent of the rank and of those passed that name it. A turn
 -- takes one rank more, and the number of ranks left falls.
 -- Assumes nothing.
-use mathlib.Core.Path.{◌≡◌, refl, sym, ap, ap₂, ◌∙◌}
-use Prim.Native.Nat.{ℕ, ◌≤◌, ◌-◌, ◌+◌, min}
-use native.Mathlib.Omega.{arith}
+use mathlib.Core.Path.{refl, sym, ap, ap₂, ◌∙◌}
+use Prim.Native.Nat.{ℕ, ◌+◌, min}
 use Rattle.basics.specs.Arrays.{at, at_next}
 use Rattle.basics.specs.Loops.{least, least_more}
 use Rattle.weights.specs.Keys.{key_holder}

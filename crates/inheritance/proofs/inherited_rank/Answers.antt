@@ -4,7 +4,6 @@ use mathlib.Core.Path.{◌∙◌}
 use native.Mathlib.Omega.{arith}
 use Rattle.inheritance.specs.Inheriting.{inherited_by_lem}
 use Rattle.rule.specs.Parts.{waits_state}
-use borrow.Author.Rules.{rules}
 use Rattle.inheritance.proofs.inherited_rank.Goals as goal
 
 pub returns : goal.returns

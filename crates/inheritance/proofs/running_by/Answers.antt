@@ -3,7 +3,7 @@
 -- Assumes nothing.
 use mathlib.Core.Path.{◌≡◌, refl, sym, ap, ap₂, ◌∙◌}
 use mathlib.Core.Bool.{Bool}
-use Prim.Native.Nat.{ℕ, ◌≤◌, ◌-◌, ◌+◌, ◌%◌, min}
+use Prim.Native.Nat.{ℕ, ◌+◌, ◌%◌, min}
 use native.Mathlib.Omega.{arith}
 use Rattle.basics.specs.Arrays.{at, at_next}
 use Rattle.basics.specs.Loops.{least, least_more}

@@ -1,15 +1,12 @@
 -- `inheritance::running_by` meets its contract. The loop's invariant: `lowest` is the lowest key of the ready ranks passed. A turn takes one rank more, and the
 -- number of ranks left falls.
 -- Assumes nothing.
-use mathlib.Core.Path.{◌≡◌, refl, sym, ap, ap₂, ◌∙◌}
-use mathlib.Core.Bool.{Bool}
-use Prim.Native.Nat.{ℕ, ◌≤◌, ◌-◌, ◌+◌, ◌%◌, min}
-use native.Mathlib.Omega.{arith}
-use Rattle.basics.specs.Arrays.{at, at_next}
-use Rattle.basics.specs.Loops.{least, least_more}
+use mathlib.Core.Path.{◌≡◌}
+use Prim.Native.Nat.{◌≤◌, ◌-◌}
+use Rattle.basics.specs.Arrays.{at}
+use Rattle.basics.specs.Loops.{least}
 use Rattle.weights.specs.Keys.{no_key}
-use Rattle.inheritance.specs.Inheriting.{ready_by, ready_key_by, running_by}
-use borrow.Author.Rules.{rules}
+use Rattle.inheritance.specs.Inheriting.{ready_by, ready_key_by}
 use Rattle.inheritance.proofs.running_by.Given as goal
 
 abbrev pub invariant-loop-rank : goal.invariant-loop-rank

@@ -3,11 +3,10 @@
 use mathlib.Core.Path.{sym, ap, ◌∙◌}
 use Prim.Native.Nat.{ℕ, ◌%◌}
 use Rattle.inheritance.specs.Inheriting.{NamedBy, running_by, running_by_lem}
-use Rattle.basics.specs.Choice.{if◌then◌else◌}
+use Rattle.std.specs.Prelude.{if◌then◌else◌}
 use Rattle.state.specs.State.{is_rank}
 use Rattle.rule.specs.Parts.{named_waits_parts}
 use Rattle.inheritance.specs.Parts.{run_state}
-use borrow.Author.Rules.{rules}
 use Rattle.inheritance.proofs.running_rank.Goals as goal
 
 pub returns : goal.returns

@@ -3,8 +3,7 @@
 use mathlib.Core.Path.{sym, ◌∙◌}
 use Rattle.state.specs.Weights.{weight}
 use Rattle.state.specs.Holders.{held_state}
-use Rattle.one_holder.specs.OneHolder.{holder_key, against_holder, against_other}
-use borrow.Author.Rules.{rules}
+use Rattle.one_holder.specs.OneHolder.{holder_key, against_other}
 use Rattle.one_holder.proofs.deciding_key.Goals as goal
 
 pub returns : goal.returns

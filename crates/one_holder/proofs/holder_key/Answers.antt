@@ -2,7 +2,7 @@
 -- them falls; and the lowest over all gathered objects is the lowest of the holder's keys.
 -- Assumes nothing.
 use mathlib.Core.Path.{◌≡◌, refl, sym, ap, ap₂, ◌∙◌}
-use Prim.Native.Nat.{ℕ, ◌+◌, ◌-◌, ◌≤◌, min}
+use Prim.Native.Nat.{ℕ, ◌+◌, min}
 use native.Mathlib.Omega.{arith}
 use Rattle.basics.specs.Arrays.{at, at_next}
 use Rattle.basics.specs.Loops.{least, least_more}
@@ -10,7 +10,6 @@ use Rattle.weights.specs.Keys.{no_key}
 use Rattle.weights.specs.Parts.{locks_state}
 use Rattle.one_holder.specs.OneHolder.{holder_key_at}
 use Rattle.one_holder.specs.Gathering.{gathered_key}
-use borrow.Author.Rules.{rules}
 use Rattle.one_holder.proofs.holder_key.Goals as goal
 
 pub loop-i-init : goal.loop-i-init

@@ -1,16 +1,13 @@
 -- `one_holder::holder_key` meets its contract. The loop's invariant: `lowest` is the lowest key on the gathered objects passed. It ends because what is left of
 -- them falls; and the lowest over all gathered objects is the lowest of the holder's keys.
 -- Assumes nothing.
-use mathlib.Core.Path.{◌≡◌, refl, sym, ap, ap₂, ◌∙◌}
-use Prim.Native.Nat.{ℕ, ◌+◌, ◌-◌, ◌≤◌, min}
-use native.Mathlib.Omega.{arith}
-use Rattle.basics.specs.Arrays.{at, at_next}
-use Rattle.basics.specs.Loops.{least, least_more}
+use mathlib.Core.Path.{◌≡◌}
+use Prim.Native.Nat.{◌-◌, ◌≤◌}
+use Rattle.basics.specs.Arrays.{at}
+use Rattle.basics.specs.Loops.{least}
 use Rattle.weights.specs.Keys.{no_key}
 use Rattle.weights.specs.Parts.{locks_state}
 use Rattle.one_holder.specs.OneHolder.{holder_key_at}
-use Rattle.one_holder.specs.Gathering.{gathered_key}
-use borrow.Author.Rules.{rules}
 use Rattle.one_holder.proofs.holder_key.Given as goal
 
 abbrev pub invariant-loop-i : goal.invariant-loop-i

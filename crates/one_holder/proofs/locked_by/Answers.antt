@@ -1,15 +1,13 @@
 -- `one_holder::locked_by` meets its contract. The loop's invariant: the list has the objects that the rank holds of the first i. A turn passes a block over, or looks
 -- at one object. It ends because what is left of the objects falls.
 -- Assumes nothing.
-use mathlib.Core.Path.{◌≡◌, refl, sym, subst, ap, ◌∙◌}
-use Prim.Native.Nat.{ℕ, ◌+◌, ◌-◌, ◌≤◌}
+use mathlib.Core.Path.{◌≡◌, sym, subst, ap, ◌∙◌}
+use Prim.Native.Nat.{ℕ, ◌+◌}
 use native.Mathlib.Omega.{arith}
-use lib.ListN.{length, set, length-set}
+use lib.ListN.{set, length-set}
 use Rattle.basics.specs.Arrays.{at_next}
 use Rattle.ranks.specs.Ranks.{member, union}
-use Rattle.state.specs.State.{most_objects}
-use Rattle.one_holder.specs.Gathering.{held_by, LocksTo, HeldTo, held_next, passed_small, locks_none, locks_passed, locks_next, nobody_locks}
-use borrow.Author.Rules.{rules}
+use Rattle.one_holder.specs.Gathering.{held_by, LocksTo, HeldTo, held_next, locks_passed, locks_next, nobody_locks}
 use Rattle.one_holder.proofs.locked_by.Goals as goal
 
 pub loop-i-preserved-then-free-ne0 : goal.loop-i-preserved-then-free-ne0

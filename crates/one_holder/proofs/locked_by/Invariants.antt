@@ -1,15 +1,11 @@
 -- `one_holder::locked_by` meets its contract. The loop's invariant: the list has the objects that the rank holds of the first i. A turn passes a block over, or looks
 -- at one object. It ends because what is left of the objects falls.
 -- Assumes nothing.
-use mathlib.Core.Path.{◌≡◌, refl, sym, subst, ap, ◌∙◌}
-use Prim.Native.Nat.{ℕ, ◌+◌, ◌-◌, ◌≤◌}
-use native.Mathlib.Omega.{arith}
-use lib.ListN.{length, set, length-set}
-use Rattle.basics.specs.Arrays.{at_next}
-use Rattle.ranks.specs.Ranks.{member, union}
+use mathlib.Core.Path.{◌≡◌}
+use Prim.Native.Nat.{◌-◌, ◌≤◌}
+use lib.ListN.{length}
 use Rattle.state.specs.State.{most_objects}
-use Rattle.one_holder.specs.Gathering.{held_by, LocksTo, HeldTo, passed_small, locks_none, locks_passed, locks_next, nobody_locks}
-use borrow.Author.Rules.{rules}
+use Rattle.one_holder.specs.Gathering.{LocksTo, HeldTo}
 use Rattle.one_holder.proofs.locked_by.Given as goal
 
 abbrev pub invariant-loop-i : goal.invariant-loop-i

@@ -3,7 +3,6 @@
 use mathlib.Core.Path.{sym, ◌∙◌}
 use native.Mathlib.Omega.{arith}
 use Rattle.one_holder.specs.OneHolder.{own_key_there}
-use borrow.Author.Rules.{rules}
 use Rattle.one_holder.proofs.own_key_at.Goals as goal
 
 pub returns : goal.returns

@@ -1,12 +1,11 @@
 -- `one_holder::passed_over` meets its contract: a rank that is in none of the joined sets is in none of the sets.
 -- Assumes nothing.
 use mathlib.Core.Path.{refl, sym, ap, ◌∙◌}
-use mathlib.Core.Logic.{inl, inr}
+use mathlib.Core.Logic.{inr}
 use Prim.Native.Nat.{ℕ}
 use native.Mathlib.Omega.{arith}
 use Rattle.ranks.specs.Ranks.{member, union}
 use Rattle.one_holder.specs.Gathering.{block_free}
-use borrow.Author.Rules.{rules}
 use Rattle.one_holder.proofs.passed_over.Goals as goal
 
 pub returns-else-contains : goal.returns-else-contains

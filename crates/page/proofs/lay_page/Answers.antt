@@ -5,7 +5,7 @@ use mathlib.Core.List.{List}
 use Prim.Native.Nat.{ℕ, ◌%◌, ◌≤◌}
 use lib.ListN.{length}
 use Rattle.state.specs.declared.State.{State}
-use Rattle.basics.specs.Choice.{if◌then◌else◌}
+use Rattle.std.specs.Prelude.{if◌then◌else◌}
 use Rattle.state.specs.State.{is_rank}
 use Rattle.rule.specs.Parts.{named_waits_parts}
 use Rattle.inheritance.specs.Inheriting.{NamedBy}

@@ -1,6 +1,5 @@
 -- `ranks::contains` meets its contract, by `contains_is`.
 -- Assumes nothing.
-use Rattle.std.proofs.Common.{rules}
 use Rattle.ranks.proofs.Shifts.{contains_is}
 use Rattle.ranks.proofs.contains.Goals as goal
 

@@ -1,6 +1,6 @@
 -- `ranks::most_urgent` meets its contract: the empty set has none, any other its first.
 -- Assumes nothing.
-use Rattle.std.proofs.Common.{◌≡◌, sym, ap, ◌∙◌, arith, rules, ne_eqb}
+use Rattle.std.proofs.Common.{◌≡◌, sym, ap, ◌∙◌, arith, ne_eqb}
 use Rattle.ranks.specs.Ranks.{most_urgent}
 use Rattle.ranks.specs.FirstLaws.{most_urgent_none, most_urgent-first}
 use Rattle.ranks.proofs.most_urgent.Goals as goal

@@ -1,7 +1,5 @@
 -- `ranks::up_to` meets its contract: the shift leaves as many ones as the count says.
 -- Assumes nothing.
-use Rattle.std.proofs.Common.{◌≡◌, sym, ap, arith, rules}
-use Rattle.ranks.specs.Ranks.{up_to}
 use Rattle.ranks.proofs.Shifts.{up_to_is}
 use Rattle.ranks.proofs.up_to.Goals as goal
 

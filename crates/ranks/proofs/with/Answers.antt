@@ -1,6 +1,5 @@
 -- `ranks::with` meets its contract, by `with_is`.
 -- Assumes nothing.
-use Rattle.std.proofs.Common.{rules}
 use Rattle.ranks.proofs.Shifts.{with_is}
 use Rattle.ranks.proofs.with.Goals as goal
 

@@ -1,6 +1,5 @@
 -- `ranks::without` meets its contract, by `without_is`.
 -- Assumes nothing.
-use Rattle.std.proofs.Common.{rules}
 use Rattle.ranks.proofs.Shifts.{without_is}
 use Rattle.ranks.proofs.without.Goals as goal
 

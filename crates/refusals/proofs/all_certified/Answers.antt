@@ -1,17 +1,14 @@
 -- `refusals::all_certified` meets its contract. The loop's invariant: the objects of the table up to the index, so many whole eights, are certified if the rank writes
 -- them; a turn looks at eight more. It ends because what is left of the table falls.
 -- Assumes nothing.
-use Prim.Native.Nat.{ℕ, ◌+◌, ◌-◌, ◌%◌, ◌≤◌, ◌<◌}
+use Prim.Native.Nat.{ℕ, ◌+◌, ◌≤◌, ◌<◌}
 use mathlib.Core.Path.{◌≡◌, sym, ap, ◌∙◌}
-use mathlib.Core.Logic.{inl, inr}
 use mathlib.Core.Bool.{true}
 use native.Mathlib.Omega.{arith}
 use native.Mathlib.Decide.{dec_le}
-use borrow.Author.Tests.{not-true, not-false}
 use Rattle.basics.specs.Loops.{every_true}
 use Rattle.ranks.specs.Ranks.{member}
 use Rattle.refusals.specs.Parts.{written_well, one_uncertified, eight_certified, eight_unwritten}
-use borrow.Author.Rules.{rules}
 use Rattle.refusals.proofs.all_certified.Goals as goal
 use Rattle.refusals.proofs.all_certified.Goals.{then-contains+else-not-certified_between, else-contains}
 

@@ -2,16 +2,9 @@
 -- them; a turn looks at eight more. It ends because what is left of the table falls.
 -- Assumes nothing.
 use Prim.Native.Nat.{ℕ, ◌+◌, ◌-◌, ◌%◌, ◌≤◌, ◌<◌}
-use mathlib.Core.Path.{◌≡◌, sym, ap, ◌∙◌}
-use mathlib.Core.Logic.{inl, inr}
+use mathlib.Core.Path.{◌≡◌}
 use mathlib.Core.Bool.{true}
-use native.Mathlib.Omega.{arith}
-use native.Mathlib.Decide.{dec_le}
-use borrow.Author.Tests.{not-true, not-false}
-use Rattle.basics.specs.Loops.{every_true}
-use Rattle.ranks.specs.Ranks.{member}
-use Rattle.refusals.specs.Parts.{written_well, one_uncertified, eight_certified, eight_unwritten}
-use borrow.Author.Rules.{rules}
+use Rattle.refusals.specs.Parts.{written_well}
 use Rattle.refusals.proofs.all_certified.Given as goal
 
 abbrev pub invariant-loop-i : goal.invariant-loop-i

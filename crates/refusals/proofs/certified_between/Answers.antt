@@ -1,16 +1,14 @@
 -- `refusals::certified_between` meets its contract. The loop's invariant: the objects up to the index are certified if the rank writes them; a turn looks at one
 -- more. It ends because what is left of them falls.
 -- Assumes nothing.
-use Prim.Native.Nat.{ℕ, suc, ◌+◌, ◌-◌, ◌≤◌, ◌<◌}
+use Prim.Native.Nat.{ℕ, suc, ◌+◌, ◌-◌}
 use mathlib.Core.Path.{◌≡◌, refl, sym, ap, ap₂, ◌∙◌}
 use mathlib.Core.Bool.{Bool, true, false, not, ◌&&◌, ◌||◌}
 use native.Mathlib.Omega.{arith}
-use native.Mathlib.Decide.{ℕ_discrete}
 use Rattle.basics.specs.Arrays.{at}
 use Rattle.basics.specs.Loops.{every_true, every_false}
 use Rattle.ranks.specs.Ranks.{member}
 use Rattle.refusals.specs.Parts.{written_well}
-use borrow.Author.Rules.{rules}
 use Rattle.refusals.proofs.certified_between.Goals as goal
 
 -- what the code tests is the opposite

@@ -5,7 +5,6 @@ use mathlib.Core.Bool.{Bool, not}
 use Rattle.basics.specs.Choice.{◌if◌else◌}
 use Rattle.state.specs.State.{state_of}
 use Rattle.refusals.specs.Parts.{certify_first_none, certify_first_some}
-use borrow.Author.Rules.{rules}
 use Rattle.refusals.proofs.certify_first.Goals as goal
 
 pub returns-then-counts-kind : goal.returns-then-counts-kind

@@ -4,17 +4,15 @@ use Prim.Native.Nat.{ℕ}
 use mathlib.Core.Path.{◌≡◌, sym, ap, ap₂, ◌∙◌}
 use mathlib.Core.Bool.{Bool, not, ◌&&◌}
 use mathlib.Core.List.{List}
-use native.Mathlib.Omega.{arith}
 use lib.Dec.{eqb}
-use borrow.Author.Tests.{eq-eqb, ne_eqb, not-true, not-false}
-use Rattle.basics.specs.Choice.{◌if◌else◌, ◌or_else◌, between_true}
+use borrow.Author.Tests.{eq-eqb, ne_eqb}
+use Rattle.basics.specs.Choice.{◌if◌else◌, ◌or_else◌}
 use Rattle.basics.specs.Arrays.{at}
 use Rattle.ranks.specs.Ranks.{member}
 use Rattle.state.specs.declared.State.{State}
 use Rattle.state.specs.State.{write, state_of, is_rank, is_object, declared, holders, is_certified, is_active, is_waiting, is_sleeping}
 use Rattle.refusals.specs.Refusals.{event_refusal}
 use Rattle.refusals.specs.Parts.{ready_first, certify_refusal, certify_refusal_lem, certify_behind}
-use borrow.Author.Rules.{rules}
 use Rattle.refusals.proofs.certify_refusal.Goals as goal
 use Rattle.refusals.proofs.certify_refusal.Goals.{Start}
 

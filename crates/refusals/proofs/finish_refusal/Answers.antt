@@ -4,14 +4,11 @@ use mathlib.Core.Path.{sym, ap, ap₂, ◌∙◌}
 use mathlib.Core.Bool.{Bool, not, ◌&&◌}
 use mathlib.Core.List.{List}
 use Prim.Native.Nat.{ℕ}
-use native.Mathlib.Omega.{arith}
 use lib.Dec.{eqb}
-use borrow.Author.Tests.{not-true, not-false}
-use Rattle.basics.specs.Choice.{◌if◌else◌, ◌or_else◌, between_true}
+use Rattle.basics.specs.Choice.{◌if◌else◌, ◌or_else◌}
 use Rattle.state.specs.declared.State.{State}
 use Rattle.state.specs.State.{state_of, is_active, is_waiting, is_sleeping}
 use Rattle.refusals.specs.Parts as P
-use borrow.Author.Rules.{rules}
 use Rattle.refusals.proofs.finish_refusal.Goals as goal
 use Rattle.refusals.proofs.finish_refusal.Goals.{Start}
 

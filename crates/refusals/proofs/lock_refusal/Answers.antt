@@ -4,17 +4,14 @@ use mathlib.Core.Path.{◌≡◌, sym, ap, ap₂, ◌∙◌}
 use mathlib.Core.Bool.{Bool, not}
 use mathlib.Core.List.{List}
 use Prim.Native.Nat.{ℕ, ◌-◌}
-use native.Mathlib.Omega.{arith}
 use lib.Dec.{eqb}
-use borrow.Author.Tests.{not-true, not-false}
-use Rattle.basics.specs.Choice.{◌if◌else◌, ◌or_else◌, between_true}
+use Rattle.basics.specs.Choice.{◌if◌else◌, ◌or_else◌}
 use Rattle.basics.specs.Arrays.{at}
 use Rattle.ranks.specs.Ranks.{member}
 use Rattle.state.specs.declared.State.{State}
 use Rattle.state.specs.State.{state_of, read, write, is_rank, is_object, is_active, is_waiting, is_sleeping, declared, holders}
 use Rattle.refusals.specs.Refusals.{event_refusal}
 use Rattle.refusals.specs.Parts.{ready_first, right_refusal, request_refusal}
-use borrow.Author.Rules.{rules}
 use Rattle.refusals.proofs.lock_refusal.Goals as goal
 use Rattle.refusals.proofs.lock_refusal.Goals.{Start}
 

@@ -3,12 +3,9 @@
 use mathlib.Core.Path.{sym, ap, ◌∙◌}
 use mathlib.Core.Bool.{Bool, not}
 use Prim.Native.Nat.{ℕ}
-use native.Mathlib.Omega.{arith}
 use lib.Dec.{eqb}
-use borrow.Author.Tests.{not-true, not-false}
-use Rattle.basics.specs.Choice.{◌if◌else◌, between_true}
+use Rattle.basics.specs.Choice.{◌if◌else◌}
 use Rattle.refusals.specs.Refusals as R
-use borrow.Author.Rules.{rules}
 use Rattle.refusals.proofs.start_refusal.Goals as goal
 
 pub returns-then-not-within : goal.returns-then-not-within

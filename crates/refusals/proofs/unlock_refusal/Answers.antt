@@ -3,15 +3,12 @@
 use mathlib.Core.Path.{sym, ap, ap₂, ◌∙◌}
 use mathlib.Core.Bool.{Bool, not, ◌||◌}
 use Prim.Native.Nat.{ℕ}
-use native.Mathlib.Omega.{arith}
 use lib.Dec.{eqb}
-use borrow.Author.Tests.{not-true, not-false}
-use Rattle.basics.specs.Choice.{◌if◌else◌, ◌or_else◌, between_true}
+use Rattle.basics.specs.Choice.{◌if◌else◌, ◌or_else◌}
 use Rattle.basics.specs.Arrays.{at}
 use Rattle.ranks.specs.Ranks.{member}
 use Rattle.refusals.specs.Refusals as R
 use Rattle.refusals.specs.Parts.{ready_first}
-use borrow.Author.Rules.{rules}
 use Rattle.refusals.proofs.unlock_refusal.Goals as goal
 
 pub returns-then-not-within : goal.returns-then-not-within

@@ -1,10 +1,9 @@
 -- `rule::idle_ranks` meets its contract, in each of the three cases.
 -- Assumes nothing.
 use mathlib.Core.Path.{refl, sym, ◌∙◌}
-use mathlib.Core.Logic.{inl, inr}
+use mathlib.Core.Logic.{inr}
 use native.Mathlib.Omega.{arith}
 use Rattle.rule.specs.WakeLaws.{idle_block}
-use borrow.Author.Rules.{rules}
 use Rattle.rule.proofs.idle_ranks.Goals as goal
 
 pub returns-then-none_waits : goal.returns-then-none_waits

@@ -1,13 +1,9 @@
 -- `rule::next_waiting` meets its contract. The loop's invariant: none of the ranks behind the given one, up to i, waits. A turn passes eight over, or looks at one. It
 -- ends because what is left of the ranks falls.
 -- Assumes nothing.
-use mathlib.Core.Path.{sym, ◌∙◌}
 use Prim.Native.Nat.{◌-◌, ◌≤◌}
-use native.Mathlib.Omega.{arith}
-use Rattle.basics.specs.Arrays.{at_next}
 use Rattle.state.specs.State.{most_jobs}
-use Rattle.rule.specs.WakeLaws.{IdleTo, idle_more, idle_one, idle_found, idle_all}
-use borrow.Author.Rules.{rules}
+use Rattle.rule.specs.WakeLaws.{IdleTo}
 use Rattle.rule.proofs.next_waiting.Given as goal
 
 abbrev pub invariant-loop-i : goal.invariant-loop-i

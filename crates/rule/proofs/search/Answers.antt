@@ -3,9 +3,8 @@
 -- holder, which is tried next; where no lock is left the rank is the first that wakes. The numbers of ranks and of locks left fall.
 -- Assumes nothing.
 use mathlib.Core.Path.{◌≡◌, refl, sym, subst, ap, ap₂, ◌∙◌}
-use Prim.Native.Nat.{ℕ, ◌+◌, ◌-◌, ◌≤◌}
+use Prim.Native.Nat.{ℕ, ◌+◌}
 use native.Mathlib.Omega.{arith}
-use borrow.Author.Tests.{not-true, not-false}
 use Rattle.basics.specs.Arrays.{at_next}
 use Rattle.basics.specs.Loops.{first_nonzero}
 use Rattle.state.specs.Holders.{carried_small}
@@ -15,7 +14,6 @@ use Rattle.rule.specs.Granting.{wakes, wakeable}
 use Rattle.rule.specs.Parts.{waits_state}
 use Rattle.rule.specs.WakeLaws.{all_stopped, found_next, found_none}
 use Rattle.rule.proofs.Searching.{LetBy, passes_gathered, all_stopped_lem, let_none, let_other, let_more, pass_stopped, found, none_left}
-use borrow.Author.Rules.{rules}
 use Rattle.rule.proofs.search.Goals as goal
 
 pub locked_by-locked-requires : goal.locked_by-locked-requires

@@ -2,20 +2,14 @@
 -- rank is the holder, or more urgent than every lock of the holder that is passed (LetBy). A lock that stops the rank stops whoever is less urgent, but for the
 -- holder, which is tried next; where no lock is left the rank is the first that wakes. The numbers of ranks and of locks left fall.
 -- Assumes nothing.
-use mathlib.Core.Path.{◌≡◌, refl, sym, subst, ap, ap₂, ◌∙◌}
-use Prim.Native.Nat.{ℕ, ◌+◌, ◌-◌, ◌≤◌}
-use native.Mathlib.Omega.{arith}
-use borrow.Author.Tests.{not-true, not-false}
-use Rattle.basics.specs.Arrays.{at_next}
+use mathlib.Core.Path.{◌≡◌}
+use Prim.Native.Nat.{◌-◌, ◌≤◌}
 use Rattle.basics.specs.Loops.{first_nonzero}
-use Rattle.state.specs.Holders.{carried_small}
 use Rattle.weights.specs.Parts.{locks_state}
-use Rattle.one_holder.specs.OneHolder.{holder_key_at, passes_lock}
-use Rattle.rule.specs.Granting.{wakes, wakeable}
+use Rattle.one_holder.specs.OneHolder.{holder_key_at}
+use Rattle.rule.specs.Granting.{wakes}
 use Rattle.rule.specs.Parts.{waits_state}
-use Rattle.rule.specs.WakeLaws.{all_stopped, found_next, found_none}
-use Rattle.rule.proofs.Searching.{LetBy, passes_gathered, all_stopped_lem, let_none, let_other, let_more, pass_stopped, found, none_left}
-use borrow.Author.Rules.{rules}
+use Rattle.rule.proofs.Searching.{LetBy}
 use Rattle.rule.proofs.search.Given as goal
 
 abbrev pub invariant-loop-done : goal.invariant-loop-done

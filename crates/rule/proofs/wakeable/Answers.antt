@@ -12,7 +12,6 @@ use Rattle.basics.specs.Loops.{every_same}
 use Rattle.state.specs.State.{most_jobs}
 use Rattle.rule.specs.Granting.{wakeable}
 use Rattle.rule.proofs.Searching.{none_woken, none_above}
-use borrow.Author.Rules.{rules}
 use Rattle.rule.proofs.wakeable.Goals as goal
 
 pub returns-then-none_waits : goal.returns-then-none_waits

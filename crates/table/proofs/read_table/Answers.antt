@@ -5,7 +5,6 @@ use borrow.Author.Tests.{eq-eqb, ne_eqb}
 use Rattle.table_bytes.specs.AcceptedTable.{accepted_table}
 use Rattle.table_bytes.specs.Refusals.{table_refusal}
 use Rattle.table.specs.Reading.{read_table}
-use borrow.Author.Rules.{rules}
 use Rattle.table.proofs.read_table.Goals as goal
 
 pub returns-then-refusal-ne0 : goal.returns-then-refusal-ne0

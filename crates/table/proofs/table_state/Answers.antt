@@ -9,7 +9,6 @@ use Rattle.state.specs.declared.State.{State}
 use Rattle.state.specs.State.{read, write, fresh_state}
 use Rattle.table_bytes.specs.Bytes.{counts_in, entry_count}
 use Rattle.table.specs.Reading.{processors_of, declared_in, table_state}
-use borrow.Author.Rules.{rules}
 use Rattle.table.proofs.table_state.Goals as goal
 
 from_parts : (b : List ℕ) (s : State) (n : Counts) (ps mr mw : List ℕ)

@@ -2,15 +2,12 @@
 -- so that `length` is the table's; refused by 20 where the buffer is shorter; else the table is laid at the front.
 -- Assumes nothing.
 use Prim.Native.Nat.{ℕ, ◌+◌, ◌*◌}
-use mathlib.Core.Path.{◌≡◌, sym, ap, ◌∙◌}
-use mathlib.Core.Bool.{true}
+use mathlib.Core.Path.{sym, ap, ◌∙◌}
 use mathlib.Core.List.{[], ◌∷◌}
 use native.Mathlib.Omega.{arith}
 use borrow.Author.Rules.{rules}
-use borrow.Author.Tests.{not-true, not-false}
 use lib.ListN.{length}
 use Rattle.basics.specs.Replies.{told}
-use Rattle.state.specs.WellFormed.{well_formed}
 use Rattle.state.specs.Facts.{Sized}
 use Rattle.table_writer.specs.Writing.{table_bytes}
 use Rattle.table_writer.specs.Laying.{laid}

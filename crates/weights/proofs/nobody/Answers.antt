@@ -2,7 +2,6 @@
 -- Assumes nothing.
 use native.Mathlib.Omega.{arith}
 use Rattle.weights.proofs.PutIn.{nobody_in, nobody_past}
-use borrow.Author.Rules.{rules}
 use Rattle.weights.proofs.nobody.Goals as goal
 
 pub returns-then-counts-lt64 : goal.returns-then-counts-lt64

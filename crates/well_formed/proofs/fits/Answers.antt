@@ -6,15 +6,12 @@ use mathlib.Core.Bool.{true, ◌&&◌}
 use mathlib.Core.List.{[]}
 use Prim.Native.Nat.{ℕ}
 use lib.Dec.{eqb}
-use borrow.Author.Tests.{not-true, not-false}
-use Rattle.basics.specs.Choice.{and_left, and_right, between_true}
+use Rattle.basics.specs.Choice.{and_left, and_right}
 use Rattle.ranks.specs.Ranks.{most_urgent, subset}
 use Rattle.state.specs.declared.State.{State}
 use Rattle.state.specs.State.{state_of}
 use Rattle.state.specs.WellFormed.{counts_fit, version_fits, processors_fit, waits_fit}
-use Rattle.state.specs.Clauses.{counts_within_lem}
 use Rattle.well_formed.proofs.SurveyLaws.{tests_well, bad_counts}
-use borrow.Author.Rules.{rules}
 use Rattle.well_formed.proofs.fits.Goals as goal
 use Rattle.well_formed.proofs.fits.Goals.{Else-not-counts_within-is_version, Start}
 

@@ -1,12 +1,8 @@
 -- `table::job::first_entry_from` meets its contract. The loop's invariant: the entries from `start` up to `entry` are of smaller ranks.
 -- A turn adds the entry that its test passed. The measure is how many entries are left.
 -- Assumes nothing.
-use Prim.Native.Nat.{ℕ, ◌-◌, ◌≤◌, ◌<◌}
 use native.Mathlib.Omega.{arith}
 use Rattle.table_bytes.specs.AcceptedTable.{accepted_table}
-use Rattle.table_bytes.specs.Bytes.{entry_rank}
-use borrow.Author.Count.{below_more}
-use borrow.Author.Rules.{rules}
 use Rattle.table.proofs.job.first_entry_from.Goals as goal
 
 pub entry_count-count-requires : goal.entry_count-count-requires

@@ -2,11 +2,7 @@
 -- A turn adds the entry that its test passed. The measure is how many entries are left.
 -- Assumes nothing.
 use Prim.Native.Nat.{ℕ, ◌-◌, ◌≤◌, ◌<◌}
-use native.Mathlib.Omega.{arith}
-use Rattle.table_bytes.specs.AcceptedTable.{accepted_table}
 use Rattle.table_bytes.specs.Bytes.{entry_rank}
-use borrow.Author.Count.{below_more}
-use borrow.Author.Rules.{rules}
 use Rattle.table.proofs.job.first_entry_from.Given as goal
 
 abbrev pub invariant-loop-entry : goal.invariant-loop-entry

@@ -9,7 +9,6 @@ use lib.ListN.{take, drop}
 use Rattle.table_bytes.specs.AcceptedTable.{accepted_table}
 use Rattle.table.specs.JobEntries.{job_entries_refusal, job_entries}
 use Rattle.table.specs.JobPart.{job_accepted, entries_together}
-use borrow.Author.Rules.{rules}
 use Rattle.table.proofs.job.job_entries.Goals as goal
 
 pub returns-then-refusal-ne0 : goal.returns-then-refusal-ne0

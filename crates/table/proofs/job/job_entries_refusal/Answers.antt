@@ -2,12 +2,10 @@
 -- Assumes nothing.
 use mathlib.Core.Path.{sym, ◌∙◌}
 use native.Mathlib.Omega.{arith}
-use borrow.Author.Tests.{not-true, not-false}
 use Rattle.table_bytes.specs.Refusals.{table_refusal}
 use Rattle.table_bytes.specs.AcceptedTable.{accepted_table}
 use Rattle.basics.specs.Choice.{or_else_first}
 use Rattle.table.specs.JobEntries.{job_entries_refusal}
-use borrow.Author.Rules.{rules}
 use Rattle.table.proofs.job.job_entries_refusal.Goals as goal
 
 pub returns-then-refusal-ne0 : goal.returns-then-refusal-ne0

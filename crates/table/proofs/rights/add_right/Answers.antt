@@ -6,7 +6,6 @@ use lib.ListN.{get_or, set}
 use Rattle.basics.specs.Arrays.{at, at_index, put_index}
 use Rattle.ranks.specs.Ranks.{with}
 use Rattle.table.specs.Reading.{with_right}
-use borrow.Author.Rules.{rules}
 use Rattle.table.proofs.rights.add_right.Goals as goal
 
 pub returns-then-gives_right : goal.returns-then-gives_right

@@ -2,15 +2,14 @@
 -- A turn adds the rights of one entry more, which is within range since the bytes are accepted. The measure is how many entries are left.
 -- Assumes nothing.
 use mathlib.Core.Path.{◌≡◌, refl, sym, ap, ◌∙◌}
-use Prim.Native.Nat.{ℕ, ◌+◌, ◌-◌, ◌≤◌}
+use Prim.Native.Nat.{ℕ, ◌+◌}
 use mathlib.Core.List.{List}
 use native.Mathlib.Omega.{arith}
 use Rattle.table_bytes.specs.AcceptedTable.{accepted_table}
-use Rattle.table_bytes.specs.Bytes.{byte, entry_count, entry_start}
+use Rattle.table_bytes.specs.Bytes.{byte, entry_start}
 use native.Mathlib.Numerals.{add-one}
 use Rattle.state.specs.State.{read, write}
 use Rattle.table.specs.Reading.{with_right, declared_in}
-use borrow.Author.Rules.{rules}
 use Rattle.table.proofs.rights.declared.Goals as goal
 
 -- a turn: the rights of the entry at `start` put into what the entries before it declare

@@ -1,16 +1,10 @@
 -- `table::rights::declared` meets its contract. The loop's invariant: the two arrays are what the first `entry` entries declare.
 -- A turn adds the rights of one entry more, which is within range since the bytes are accepted. The measure is how many entries are left.
 -- Assumes nothing.
-use mathlib.Core.Path.{◌≡◌, refl, sym, ap, ◌∙◌}
-use Prim.Native.Nat.{ℕ, ◌+◌, ◌-◌, ◌≤◌}
-use mathlib.Core.List.{List}
-use native.Mathlib.Omega.{arith}
-use Rattle.table_bytes.specs.AcceptedTable.{accepted_table}
-use Rattle.table_bytes.specs.Bytes.{byte, entry_count, entry_start}
-use native.Mathlib.Numerals.{add-one}
+use mathlib.Core.Path.{◌≡◌}
+use Prim.Native.Nat.{◌-◌, ◌≤◌}
 use Rattle.state.specs.State.{read, write}
-use Rattle.table.specs.Reading.{with_right, declared_in}
-use borrow.Author.Rules.{rules}
+use Rattle.table.specs.Reading.{declared_in}
 use Rattle.table.proofs.rights.declared.Given as goal
 
 abbrev pub invariant-loop-entry : goal.invariant-loop-entry

@@ -1,8 +1,8 @@
 -- `table::rights::processors_of` meets its contract. The loop's invariant: the first `i` elements are the first `i` processor bytes, the others 0.
 -- A turn stores one byte more. The measure is how many bytes are left.
 -- Assumes nothing.
-use mathlib.Core.Path.{◌≡◌, refl, sym, ap, ◌∙◌}
-use Prim.Native.Nat.{ℕ, ◌+◌, ◌-◌, ◌≤◌, ◌<◌}
+use mathlib.Core.Path.{◌≡◌, sym, ap, ◌∙◌}
+use Prim.Native.Nat.{ℕ, ◌+◌, ◌-◌, ◌<◌}
 use native.Mathlib.Omega.{arith}
 use Rattle.table_bytes.specs.AcceptedTable.{accepted_table}
 use mathlib.Core.List.{List, ◌++◌}
@@ -12,7 +12,6 @@ use Rattle.basics.specs.Arrays.{copied_more}
 use Rattle.state.specs.State.{most_jobs, zeros}
 use Rattle.table_bytes.specs.Bytes.{jobs_in}
 use Rattle.table.specs.Reading.{processors_of}
-use borrow.Author.Rules.{rules}
 use Rattle.table.proofs.rights.processors_of.Goals as goal
 
 pub bounds-bytes-6 : goal.bounds-bytes-6

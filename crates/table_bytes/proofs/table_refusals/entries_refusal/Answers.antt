@@ -2,14 +2,13 @@
 -- is the order of the last of them. A turn adds the entry that it looked at; where that is faulty, it is the first. The measure is how many entries are left.
 -- Assumes nothing.
 use mathlib.Core.Path.{◌≡◌, refl, sym, ap, ◌∙◌}
-use Prim.Native.Nat.{ℕ, suc, ◌-◌, ◌≤◌}
+use Prim.Native.Nat.{ℕ, suc}
 use mathlib.Core.List.{List}
 use native.Mathlib.Omega.{arith}
 use native.Mathlib.Numerals.{add-one}
 use Rattle.table_bytes.specs.Bytes.{jobs_in, objects_in, entry_count, entry_rank, entry_object, entry_mode, order_before}
 use Rattle.table_bytes.specs.Refusals.{entry_refusal, entry_refusal_of, entries_refusal}
 use Rattle.basics.specs.Loops.{first_nonzero, first_nonzero_at, first_none_more}
-use borrow.Author.Rules.{rules}
 use Rattle.table_bytes.proofs.table_refusals.entries_refusal.Goals as goal
 
 own-refusal : (b : List ℕ) (i before r : ℕ) → before ≡ order_before b i

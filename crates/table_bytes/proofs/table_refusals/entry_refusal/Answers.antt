@@ -1,9 +1,8 @@
 -- `table_bytes::table_refusals::entry_refusal` meets its contract, test by test.
 -- Assumes nothing.
 use mathlib.Core.Path.{sym, ◌∙◌}
-use borrow.Author.Tests.{lt-ltb, le-ltb, not-true, not-false}
+use borrow.Author.Tests.{lt-ltb, le-ltb}
 use Rattle.table_bytes.specs.Refusals.{entry_refusal}
-use borrow.Author.Rules.{rules}
 use Rattle.table_bytes.proofs.table_refusals.entry_refusal.Goals as goal
 
 pub returns-then-not-fields_within : goal.returns-then-not-fields_within

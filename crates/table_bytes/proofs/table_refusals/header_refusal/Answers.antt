@@ -6,12 +6,11 @@ use mathlib.Core.Bool.{true, false}
 use mathlib.Core.List.{List}
 use lib.Dec.{ltb}
 use lib.ListN.{length}
-use borrow.Author.Tests.{lt-ltb, le-ltb, not-true, not-false}
+use borrow.Author.Tests.{lt-ltb, le-ltb}
 use Rattle.state.specs.State.{is_version}
 use Rattle.state.specs.WellFormed.{counts_within}
 use Rattle.table_bytes.specs.Bytes.{counts_in, version_in}
 use Rattle.table_bytes.specs.Refusals.{has_mark, header_refusal}
-use borrow.Author.Rules.{rules}
 use Rattle.table_bytes.proofs.table_refusals.header_refusal.Goals as goal
 
 -- the header's refusal, by the answers of its four tests

@@ -5,7 +5,6 @@ use borrow.Author.Tests.{lt-ltb, le-ltb}
 use Rattle.table_bytes.specs.Bytes.{entry_count, entries_start, table_length}
 use Rattle.table_bytes.specs.Refusals.{length_refusal, most_entries}
 use lib.ListN.{length}
-use borrow.Author.Rules.{rules}
 use Rattle.table_bytes.proofs.table_refusals.length_refusal.Goals as goal
 
 pub returns-then-bytes-entries_start : goal.returns-then-bytes-entries_start

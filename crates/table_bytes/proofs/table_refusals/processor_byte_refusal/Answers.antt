@@ -2,13 +2,12 @@
 -- A turn adds the byte that its test passed; where the test fails, that byte is the first. The measure is how many bytes are left.
 -- Assumes nothing.
 use mathlib.Core.Path.{◌≡◌, refl, sym, ap, ◌∙◌}
-use Prim.Native.Nat.{ℕ, suc, ◌-◌, ◌≤◌}
+use Prim.Native.Nat.{ℕ, suc}
 use native.Mathlib.Omega.{arith}
 use borrow.Author.Tests.{lt-ltb, le-ltb}
 use Rattle.table_bytes.specs.Bytes.{jobs_in}
 use Rattle.table_bytes.specs.Refusals.{processor_byte_refusal_of, processor_byte_refusal}
 use Rattle.basics.specs.Loops.{first_nonzero, first_nonzero_at, first_none_more}
-use borrow.Author.Rules.{rules}
 use Rattle.table_bytes.proofs.table_refusals.processor_byte_refusal.Goals as goal
 
 pub loop-i-init : goal.loop-i-init

@@ -1,14 +1,10 @@
 -- `table_bytes::table_refusals::processor_byte_refusal` meets its contract. The loop's invariant: none of the first `i` processor bytes is too large.
 -- A turn adds the byte that its test passed; where the test fails, that byte is the first. The measure is how many bytes are left.
 -- Assumes nothing.
-use mathlib.Core.Path.{◌≡◌, refl, sym, ap, ◌∙◌}
-use Prim.Native.Nat.{ℕ, suc, ◌-◌, ◌≤◌}
-use native.Mathlib.Omega.{arith}
-use borrow.Author.Tests.{lt-ltb, le-ltb}
-use Rattle.table_bytes.specs.Bytes.{jobs_in}
-use Rattle.table_bytes.specs.Refusals.{processor_byte_refusal_of, processor_byte_refusal}
-use Rattle.basics.specs.Loops.{first_nonzero, first_nonzero_at, first_none_more}
-use borrow.Author.Rules.{rules}
+use mathlib.Core.Path.{◌≡◌}
+use Prim.Native.Nat.{◌-◌, ◌≤◌}
+use Rattle.table_bytes.specs.Refusals.{processor_byte_refusal_of}
+use Rattle.basics.specs.Loops.{first_nonzero}
 use Rattle.table_bytes.proofs.table_refusals.processor_byte_refusal.Given as goal
 
 abbrev pub invariant-loop-i : goal.invariant-loop-i

@@ -4,7 +4,6 @@ use mathlib.Core.Path.{sym, ◌∙◌}
 use Rattle.table_bytes.specs.Refusals.{header_refusal, length_refusal, processor_byte_refusal, table_refusal}
 use Rattle.table_bytes.specs.AcceptedTable.{header_long, start_in, table_in}
 use Rattle.basics.specs.Choice.{or_else_first}
-use borrow.Author.Rules.{rules}
 use Rattle.table_bytes.proofs.table_refusals.table_refusal.Goals as goal
 
 pub returns-then-header-ne0 : goal.returns-then-header-ne0

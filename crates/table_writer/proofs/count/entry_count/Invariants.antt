@@ -1,14 +1,9 @@
 -- `table_writer::count::entry_count` meets its contract. The loop's invariant: the count is the total of the first i objects, and at most the bits of a
 -- word for each. A turn adds the next object's. The measure is how many objects are left. Assumes nothing.
-use Prim.Native.Nat.{◌+◌, ◌-◌, ◌*◌, ◌≤◌}
-use mathlib.Core.Path.{◌≡◌, refl, sym, ap, ap₂, ◌∙◌}
-use native.Mathlib.Numerals.{add-one}
-use native.Mathlib.Omega.{arith}
-use borrow.Author.Rules.{rules}
-use lib.ListN.{get_or}
-use Rattle.basics.specs.Loops.{sum, sum_more}
-use Rattle.ranks.specs.Ranks.{word_bits, union, size}
-use Rattle.table_writer.specs.Laying.{entries_on, entry_total}
+use Prim.Native.Nat.{◌-◌, ◌*◌, ◌≤◌}
+use mathlib.Core.Path.{◌≡◌}
+use Rattle.ranks.specs.Ranks.{word_bits}
+use Rattle.table_writer.specs.Laying.{entry_total}
 use Rattle.table_writer.proofs.count.entry_count.Given as goal
 
 abbrev pub invariant-loop-i : goal.invariant-loop-i

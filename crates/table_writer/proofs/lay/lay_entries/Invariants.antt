@@ -1,15 +1,9 @@
 -- `table_writer::lay::lay_entries` meets its contract. The loop's invariant: the entries of the ranks passed are laid from the index on, and `end`
 -- stands behind them. A turn lays the next rank's entries behind. The measure is how many ranks are left. Assumes nothing.
-use Prim.Native.Nat.{ℕ, ◌+◌, ◌-◌, ◌≤◌}
-use mathlib.Core.Path.{◌≡◌, refl, sym, ap, ◌∙◌}
-use native.Mathlib.Nat.{add-zero}
-use native.Mathlib.Omega.{arith}
-use borrow.Author.Rules.{rules}
+use Prim.Native.Nat.{◌+◌, ◌-◌, ◌≤◌}
+use mathlib.Core.Path.{◌≡◌}
 use lib.ListN.{length}
-use Rattle.basics.specs.Loops.{joined}
-use Rattle.table_writer.specs.Laying.{declared_modes, entries_of_rank, entries_of_ranks, laid}
-use Rattle.table_writer.specs.EntryLaws.{ranks_more, ranks_more_length, ranks_grow}
-use Rattle.table_writer.proofs.LaidLaws.{laid_none, laid_turn}
+use Rattle.table_writer.specs.Laying.{declared_modes, entries_of_ranks, laid}
 use Rattle.table_writer.proofs.lay.lay_entries.Given as goal
 
 abbrev pub invariant-loop-rank : goal.invariant-loop-rank

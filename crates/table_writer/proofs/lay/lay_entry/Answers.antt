@@ -5,8 +5,7 @@ use mathlib.Core.List.{[], ◌∷◌}
 use native.Mathlib.Nat.{add-zero}
 use native.Mathlib.Numerals.{towards_suc}
 use native.Mathlib.Omega.{arith}
-use borrow.Author.Rules.{rules}
-use lib.ListN.{length, length-set}
+use lib.ListN.{length}
 use Rattle.table_writer.specs.EntryLaws.{entry_none, entry_some}
 use Rattle.table_writer.proofs.LaidLaws.{laid_none, sets_laid}
 use Rattle.table_writer.proofs.lay.lay_entry.Goals as goal

@@ -1,8 +1,6 @@
 -- `table_writer::lay::lay_header` meets its contract: its eight stores lay the header's eight bytes.
 -- Assumes nothing.
 use native.Mathlib.Omega.{arith}
-use borrow.Author.Rules.{rules}
-use lib.ListN.{length-set}
 use Rattle.table_writer.specs.Laying.{header_of}
 use Rattle.table_writer.proofs.LaidLaws.{sets_laid}
 use Rattle.table_writer.proofs.lay.lay_header.Goals as goal

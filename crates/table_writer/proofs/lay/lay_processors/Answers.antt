@@ -1,13 +1,12 @@
 -- `table_writer::lay::lay_processors` meets its contract. The loop's invariant: the first i processor bytes stand behind the header, and the
 -- buffer has its length. A turn pastes one byte more. The measure is how many are left. Assumes nothing.
-use Prim.Native.Nat.{ℕ, ◌+◌, ◌-◌, ◌≤◌}
-use mathlib.Core.Path.{◌≡◌, refl, sym, ap, ◌∙◌}
+use Prim.Native.Nat.{ℕ, ◌+◌}
+use mathlib.Core.Path.{◌≡◌, sym, ap, ◌∙◌}
 use mathlib.Core.List.{List, ◌++◌, append_assoc}
 use native.Mathlib.Numerals.{add-one}
 use native.Mathlib.Omega.{arith}
-use borrow.Author.Rules.{rules}
 use lib.ListN.{length, get_or, take, drop, set, length-set}
-use lib.Seq.{length-take-le, paste, paste-zero, paste-suc}
+use lib.Seq.{length-take-le, paste, paste-suc}
 use Rattle.table_writer.specs.Laying.{laid}
 use Rattle.table_writer.proofs.lay.lay_processors.Goals as goal
 

@@ -1,19 +1,9 @@
 -- `table_writer::lay::lay_rank` meets its contract. The loop's invariant: the rank's entries for the objects passed are laid from the index on, and
 -- `end` stands behind them. A turn lays the next object's entry behind. The measure is how many objects are left. Assumes nothing.
-use Prim.Native.Nat.{ℕ, ◌+◌, ◌-◌, ◌≤◌}
-use mathlib.Core.Path.{◌≡◌, refl, sym, ap, ◌∙◌}
-use mathlib.Core.List.{◌++◌}
-use native.Mathlib.Nat.{add-zero}
-use native.Mathlib.Numerals.{add-one}
-use native.Mathlib.Omega.{arith}
-use borrow.Author.Rules.{rules}
+use Prim.Native.Nat.{◌+◌, ◌-◌, ◌≤◌}
+use mathlib.Core.Path.{◌≡◌}
 use lib.ListN.{length}
-use Rattle.basics.specs.Loops.{joined}
-use Rattle.basics.specs.Arrays.{at}
-use Rattle.table_writer.specs.Writing.{entry_bytes}
 use Rattle.table_writer.specs.Laying.{declared_modes, entries_of_rank, laid}
-use Rattle.table_writer.specs.EntryLaws.{rank_more, rank_more_length, rank_grows}
-use Rattle.table_writer.proofs.LaidLaws.{laid_none, laid_turn}
 use Rattle.table_writer.proofs.lay.lay_rank.Given as goal
 
 abbrev pub invariant-loop-object : goal.invariant-loop-object

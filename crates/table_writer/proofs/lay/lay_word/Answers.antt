@@ -2,8 +2,6 @@
 -- Assumes nothing.
 use native.Mathlib.Numerals.{towards_suc}
 use native.Mathlib.Omega.{arith}
-use borrow.Author.Rules.{rules}
-use lib.ListN.{length-set}
 use Rattle.table_writer.specs.Writing.{word_bytes}
 use Rattle.table_writer.proofs.LaidLaws.{sets_laid}
 use Rattle.table_writer.proofs.lay.lay_word.Goals as goal

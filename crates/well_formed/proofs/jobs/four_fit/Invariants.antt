@@ -1,20 +1,13 @@
 -- `well_formed::four_fit` meets its contract. Where none waits, each fits. The loop's invariant: each of the first k may wait for what it waits for;
 -- a turn tests one more, and leaves the loop with the first that fails. It ends because what is left of the four falls.
 -- Assumes nothing.
-use Prim.Native.Nat.{ℕ, ◌+◌, ◌-◌, ◌≤◌}
-use mathlib.Core.Path.{◌≡◌, refl, sym, ap, ◌∙◌}
+use Prim.Native.Nat.{◌+◌, ◌-◌, ◌≤◌}
+use mathlib.Core.Path.{◌≡◌}
 use mathlib.Core.Bool.{true}
 use mathlib.Core.List.{[]}
-use native.Mathlib.Omega.{arith}
-use lib.Dec.{eqb}
-use borrow.Author.Tests.{eqb-true, not-true, not-false}
-use Rattle.basics.specs.Choice.{and_true}
-use Rattle.basics.specs.Loops.{every, every_more, every-at, every_true, every_false}
-use Rattle.state.specs.declared.State.{State}
-use Rattle.state.specs.State.{state_of, request_of}
+use Rattle.basics.specs.Loops.{every}
+use Rattle.state.specs.State.{state_of}
 use Rattle.state.specs.WellFormed.{wait_fits}
-use Rattle.well_formed.proofs.WaitLaws.{wait_none, wait_found, wait_not}
-use borrow.Author.Rules.{rules}
 use Rattle.well_formed.proofs.jobs.four_fit.Given as goal
 
 abbrev pub invariant-loop-k : goal.invariant-loop-k

@@ -3,8 +3,6 @@
 use mathlib.Core.List.{[]}
 use Rattle.state.specs.State.{state_of}
 use Rattle.well_formed.proofs.WaitLaws.{may_await_is}
-use borrow.Author.Tests.{not-true, not-false}
-use mathlib.Core.Bool.{false}
 use Prim.Native.Nat.{◌+◌, ◌-◌, ◌≤◌}
 use mathlib.Core.Bool.{Bool, true, ◌&&◌, not}
 use Rattle.basics.specs.Choice.{between, and_right, between_true}
@@ -13,7 +11,6 @@ use Rattle.state.specs.State.{most_objects, mode_of_request, object_of_request}
 use Rattle.well_formed.specs.Survey.{may_ask}
 use native.Mathlib.Omega.{arith}
 use mathlib.Core.Path.{◌≡◌, sym, ap, ap₂, ◌∙◌}
-use borrow.Author.Rules.{rules}
 use Rattle.well_formed.proofs.jobs.may_await.Goals as goal
 use Rattle.well_formed.proofs.jobs.may_await.Goals.{Else-not-within}
 

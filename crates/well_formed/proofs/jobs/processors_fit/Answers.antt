@@ -1,7 +1,7 @@
 -- `well_formed::processors_fit` meets its contract. The loop's invariant: the largest of the first i processors is one of the table's if and only if each is;
 -- a turn takes one more. It ends because what is left of the count falls.
 -- Assumes nothing.
-use Prim.Native.Nat.{ℕ, suc, ◌≤◌, ◌-◌, max}
+use Prim.Native.Nat.{ℕ, suc, max}
 use mathlib.Core.Path.{◌≡◌, ap, ◌∙◌}
 use mathlib.Core.Bool.{Bool, ◌&&◌}
 use native.Mathlib.Numerals.{add-one}
@@ -12,7 +12,6 @@ use Rattle.basics.specs.Choice.{same_test, and_true, and_left, and_right}
 use Rattle.basics.specs.Loops.{every}
 use Rattle.basics.specs.Arrays.{at}
 use Rattle.state.specs.WellFormed.{processors_fit}
-use borrow.Author.Rules.{rules}
 use Rattle.well_formed.proofs.jobs.processors_fit.Goals as goal
 
 -- the larger of two numbers is below a bound if and only if both are

@@ -1,20 +1,13 @@
 -- `well_formed::waits_fit` meets its contract. Where none waits, each fits. The loop's invariant: each of the first `from` jobs, in fours, may wait for what it
 -- waits for; a turn tests four more, and leaves the loop with the first four that fail. It ends because what is left of the ranks falls.
 -- Assumes nothing.
-use Prim.Native.Nat.{ℕ, ◌+◌, ◌-◌, ◌%◌, ◌≤◌}
-use mathlib.Core.Path.{◌≡◌, refl, sym, ap, ap₂, ◌∙◌}
-use mathlib.Core.Bool.{Bool, true, ◌&&◌}
+use Prim.Native.Nat.{◌-◌, ◌%◌, ◌≤◌}
+use mathlib.Core.Path.{◌≡◌}
+use mathlib.Core.Bool.{true}
 use mathlib.Core.List.{[]}
-use native.Mathlib.Nat.{zero-add}
-use native.Mathlib.Omega.{arith}
-use lib.Dec.{eqb}
-use borrow.Author.Tests.{eqb-true, not-true, not-false}
-use Rattle.basics.specs.Loops.{every, every-at, every_true, every_split}
-use Rattle.state.specs.declared.State.{State}
-use Rattle.state.specs.State.{most_jobs, state_of, request_of}
-use Rattle.state.specs.WellFormed.{wait_fits, waits_fit}
-use Rattle.well_formed.proofs.WaitLaws.{wait_none}
-use borrow.Author.Rules.{rules}
+use Rattle.basics.specs.Loops.{every}
+use Rattle.state.specs.State.{most_jobs, state_of}
+use Rattle.state.specs.WellFormed.{wait_fits}
 use Rattle.well_formed.proofs.jobs.waits_fit.Given as goal
 
 abbrev pub invariant-loop-from : goal.invariant-loop-from

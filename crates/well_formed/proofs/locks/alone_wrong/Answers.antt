@@ -4,7 +4,6 @@ use mathlib.Core.Path.{ap, ap₂, ◌∙◌}
 use native.Mathlib.Omega.{arith}
 use Rattle.ranks.specs.Ranks.{is_empty, union, common, minus, less_one}
 use Rattle.well_formed.proofs.SurveyLaws.{alone_apart}
-use borrow.Author.Rules.{rules}
 use Rattle.well_formed.proofs.locks.alone_wrong.Goals as goal
 
 pub returns : goal.returns

@@ -1,15 +1,14 @@
 -- `well_formed::block_alone_wrong` meets its contract. The loop's invariant: the set is empty if and only if the first k objects of the block are in order;
 -- a turn joins what is wrong with one more. It ends because what is left of the block falls.
 -- Assumes nothing.
-use Prim.Native.Nat.{ℕ, suc, ◌+◌, ◌-◌, ◌≤◌}
+use Prim.Native.Nat.{suc, ◌+◌}
 use mathlib.Core.Path.{◌≡◌, refl, sym, ap, ap₂, ◌∙◌}
 use mathlib.Core.Bool.{true, ◌&&◌}
 use native.Mathlib.Omega.{arith}
 use Rattle.basics.specs.Loops.{every, every_more}
 use Rattle.ranks.specs.Ranks.{is_empty}
 use Rattle.ranks.specs.UnionLaws.{empty_union}
-use Rattle.well_formed.specs.Survey.{block_size, object_in_order}
-use borrow.Author.Rules.{rules}
+use Rattle.well_formed.specs.Survey.{object_in_order}
 use Rattle.well_formed.proofs.locks.block_alone_wrong.Goals as goal
 
 pub loop-k-init : goal.loop-k-init

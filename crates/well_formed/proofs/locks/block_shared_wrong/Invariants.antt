@@ -1,15 +1,12 @@
 -- `well_formed::block_shared_wrong` meets its contract. The loop's invariant: the set is empty if and only if the first k objects of the block are in order;
 -- a turn joins what is wrong with one more. It ends because what is left of the block falls.
 -- Assumes nothing.
-use Prim.Native.Nat.{ℕ, suc, ◌+◌, ◌-◌, ◌≤◌}
-use mathlib.Core.Path.{◌≡◌, refl, sym, ap, ap₂, ◌∙◌}
-use mathlib.Core.Bool.{false, ◌&&◌}
-use native.Mathlib.Omega.{arith}
-use Rattle.basics.specs.Loops.{every, every_more}
+use Prim.Native.Nat.{◌+◌, ◌-◌, ◌≤◌}
+use mathlib.Core.Path.{◌≡◌}
+use mathlib.Core.Bool.{false}
+use Rattle.basics.specs.Loops.{every}
 use Rattle.ranks.specs.Ranks.{is_empty}
-use Rattle.ranks.specs.UnionLaws.{empty_union}
 use Rattle.well_formed.specs.Survey.{block_size, object_in_order}
-use borrow.Author.Rules.{rules}
 use Rattle.well_formed.proofs.locks.block_shared_wrong.Given as goal
 
 abbrev pub invariant-loop-k : goal.invariant-loop-k

@@ -3,7 +3,6 @@
 use mathlib.Core.Path.{ap, ap₂, ◌∙◌}
 use Rattle.ranks.specs.Ranks.{is_empty, union, common}
 use Rattle.well_formed.proofs.SurveyLaws.{shared_apart}
-use borrow.Author.Rules.{rules}
 use Rattle.well_formed.proofs.locks.shared_wrong.Goals as goal
 
 pub returns : goal.returns

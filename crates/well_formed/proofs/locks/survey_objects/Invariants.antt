@@ -1,20 +1,11 @@
 -- `well_formed::survey_objects` meets its contract. The loop's invariant: what is held, and whether something is wrong, is that of the first i objects,
 -- in whole blocks; a turn adds a block, which is in order where it has no lock. It ends because what is left of the objects falls.
 -- Assumes nothing.
-use Prim.Native.Nat.{ℕ, ◌+◌, ◌-◌, ◌%◌, ◌<◌}
-use mathlib.Core.Path.{◌≡◌, refl, sym, ap, ap₂, ◌∙◌}
-use mathlib.Core.Logic.{inl, inr}
-use native.Mathlib.Nat.{zero-add}
-use native.Mathlib.Omega.{arith}
-use lib.Bits.{or_zero_r}
-use borrow.Author.Tests.{eqb-true, not-false}
-use Rattle.basics.specs.Arrays.{at}
+use Prim.Native.Nat.{◌+◌, ◌-◌, ◌%◌, ◌<◌}
+use mathlib.Core.Path.{◌≡◌}
 use Rattle.basics.specs.Loops.{every}
-use Rattle.ranks.specs.Ranks.{is_empty, union, unions}
-use Rattle.ranks.specs.UnionLaws.{unions_both}
-use Rattle.well_formed.specs.Survey.{block_size, in_blocks, object_in_order, held_on}
-use Rattle.well_formed.proofs.SurveyLaws.{held_more, order_more, unlocked_more}
-use borrow.Author.Rules.{rules}
+use Rattle.ranks.specs.Ranks.{is_empty, unions}
+use Rattle.well_formed.specs.Survey.{block_size, object_in_order, held_on}
 use Rattle.well_formed.proofs.locks.survey_objects.Given as goal
 
 abbrev pub invariant-loop-i : goal.invariant-loop-i

@@ -1,15 +1,13 @@
 -- `well_formed::union_outside` meets its contract. The loop's invariant: the union is that of the first k objects outside the table; a turn joins one more.
 -- It ends because what is left of them falls.
 -- Assumes nothing.
-use Prim.Native.Nat.{ℕ, ◌+◌, ◌-◌, ◌≤◌}
-use mathlib.Core.Path.{◌≡◌, refl, sym, ap, ap₂, ◌∙◌}
+use Prim.Native.Nat.{◌+◌}
+use mathlib.Core.Path.{refl, sym, ap, ap₂, ◌∙◌}
 use native.Mathlib.Nat.{add-suc}
 use native.Mathlib.Omega.{arith}
 use Rattle.ranks.specs.Ranks.{union, unions}
 use Rattle.ranks.specs.UnionLaws.{unions_next}
-use Rattle.state.specs.State.{most_objects}
 use Rattle.well_formed.specs.Survey.{all_of}
-use borrow.Author.Rules.{rules}
 use Rattle.well_formed.proofs.locks.union_outside.Goals as goal
 
 pub loop-k-init : goal.loop-k-init

@@ -4,7 +4,6 @@ use mathlib.Core.Path.{ap, ap₂, ◌∙◌}
 use mathlib.Core.Bool.{◌&&◌}
 use Rattle.ranks.specs.Ranks.{is_empty, union, minus}
 use Rattle.ranks.specs.UnionLaws.{empty_union, empty_minus}
-use borrow.Author.Rules.{rules}
 use Rattle.well_formed.proofs.locks.without_right.Goals as goal
 
 pub returns : goal.returns

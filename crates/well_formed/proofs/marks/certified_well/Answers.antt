@@ -4,7 +4,6 @@ use mathlib.Core.Path.{sym, ap₂, ◌∙◌}
 use mathlib.Core.Bool.{Bool, ◌&&◌}
 use lib.Dec.{eqb}
 use Rattle.well_formed.proofs.MarkLaws.{none_marked, both}
-use borrow.Author.Rules.{rules}
 use Rattle.well_formed.proofs.marks.certified_well.Goals as goal
 
 pub returns-then-both_empty : goal.returns-then-both_empty

@@ -5,13 +5,12 @@ use Prim.Native.Nat.{ℕ, suc, ◌+◌, ◌-◌}
 use mathlib.Core.Path.{◌≡◌, refl, sym, subst, ap, ap₂, ◌∙◌}
 use mathlib.Core.Bool.{Bool, true, false, not, ◌&&◌, ◌||◌}
 use native.Mathlib.Omega.{arith}
-use borrow.Author.Tests.{eqb-true, not-true, not-false}
+use borrow.Author.Tests.{eqb-true}
 use Rattle.basics.specs.Arrays.{at}
 use Rattle.ranks.specs.Ranks.{without, first}
 use Rattle.ranks.specs.RankLaws.{first_pos, first-le, first_there, first-without}
 use Rattle.well_formed.specs.Survey.{certifiable}
-use Rattle.well_formed.proofs.MarkLaws.{Seen, none_seen, one_seen, not_well, all_seen}
-use borrow.Author.Rules.{rules}
+use Rattle.well_formed.proofs.MarkLaws.{Seen, one_seen, not_well, all_seen}
 use Rattle.well_formed.proofs.marks.word_fits.Goals as goal
 
 -- what the code tests is the opposite

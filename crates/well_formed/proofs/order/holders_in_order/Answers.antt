@@ -1,15 +1,14 @@
 -- `well_formed::holders_in_order` meets its contract. One holder is in order with himself. Else the loop's invariant: the set is empty if and only if the
 -- first i objects, in whole blocks, are in order; a turn joins a block's readers and writers that are not. It ends because what is left of the objects falls.
 -- Assumes nothing.
-use Prim.Native.Nat.{ℕ, ◌+◌, ◌-◌, ◌%◌, ◌<◌}
-use mathlib.Core.Path.{◌≡◌, refl, sym, ap, ◌∙◌}
+use Prim.Native.Nat.{ℕ}
+use mathlib.Core.Path.{refl, sym, ap, ◌∙◌}
 use mathlib.Core.Bool.{Bool, ◌&&◌}
 use native.Mathlib.Omega.{arith}
 use Rattle.basics.specs.Loops.{every, every_true}
 use Rattle.ranks.specs.Ranks.{is_empty, union}
-use Rattle.well_formed.specs.Survey.{block_size, in_blocks, readers_ordered, writers_ordered, object_ordered}
+use Rattle.well_formed.specs.Survey.{in_blocks, readers_ordered, writers_ordered}
 use Rattle.well_formed.proofs.OrderLaws.{one_holder, ordered_more}
-use borrow.Author.Rules.{rules}
 use Rattle.well_formed.proofs.order.holders_in_order.Goals as goal
 use Rattle.well_formed.proofs.order.holders_in_order.Goals.{Start}
 

@@ -1,15 +1,11 @@
 -- `well_formed::holders_in_order` meets its contract. One holder is in order with himself. Else the loop's invariant: the set is empty if and only if the
 -- first i objects, in whole blocks, are in order; a turn joins a block's readers and writers that are not. It ends because what is left of the objects falls.
 -- Assumes nothing.
-use Prim.Native.Nat.{ℕ, ◌+◌, ◌-◌, ◌%◌, ◌<◌}
-use mathlib.Core.Path.{◌≡◌, refl, sym, ap, ◌∙◌}
-use mathlib.Core.Bool.{Bool, ◌&&◌}
-use native.Mathlib.Omega.{arith}
-use Rattle.basics.specs.Loops.{every, every_true}
-use Rattle.ranks.specs.Ranks.{is_empty, union}
-use Rattle.well_formed.specs.Survey.{block_size, in_blocks, readers_ordered, writers_ordered, object_ordered}
-use Rattle.well_formed.proofs.OrderLaws.{one_holder, ordered_more}
-use borrow.Author.Rules.{rules}
+use Prim.Native.Nat.{◌+◌, ◌-◌, ◌%◌, ◌<◌}
+use mathlib.Core.Path.{◌≡◌}
+use Rattle.basics.specs.Loops.{every}
+use Rattle.ranks.specs.Ranks.{is_empty}
+use Rattle.well_formed.specs.Survey.{block_size, object_ordered}
 use Rattle.well_formed.proofs.order.holders_in_order.Given as goal
 
 abbrev pub invariant-loop-i : goal.invariant-loop-i

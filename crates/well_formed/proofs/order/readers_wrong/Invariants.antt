@@ -2,17 +2,11 @@
 -- invariant: the set is empty if and only if the readers of the first k objects of the block are in order; a turn joins those of one more that are not.
 -- It ends because what is left of the block falls.
 -- Assumes nothing.
-use Prim.Native.Nat.{ℕ, suc, ◌+◌, ◌-◌, ◌≤◌}
-use mathlib.Core.Path.{◌≡◌, refl, sym, ap, ap₂, ◌∙◌}
-use mathlib.Core.Bool.{◌&&◌}
-use native.Mathlib.Omega.{arith}
-use Rattle.basics.specs.Arrays.{at}
-use Rattle.basics.specs.Loops.{every, every_more}
-use Rattle.ranks.specs.Ranks.{is_empty, common}
-use Rattle.ranks.specs.UnionLaws.{empty_union}
+use Prim.Native.Nat.{◌+◌, ◌-◌, ◌≤◌}
+use mathlib.Core.Path.{◌≡◌}
+use Rattle.basics.specs.Loops.{every}
+use Rattle.ranks.specs.Ranks.{is_empty}
 use Rattle.well_formed.specs.Survey.{block_size, readers_ordered}
-use Rattle.well_formed.proofs.OrderLaws.{first_alone_all}
-use borrow.Author.Rules.{rules}
 use Rattle.well_formed.proofs.order.readers_wrong.Given as goal
 
 abbrev pub invariant-loop-k : goal.invariant-loop-k

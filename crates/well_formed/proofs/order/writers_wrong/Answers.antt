@@ -2,7 +2,7 @@
 -- invariant: the set is empty if and only if the writers of the first k objects of the block are in order; a turn joins those of one more that are not.
 -- It ends because what is left of the block falls.
 -- Assumes nothing.
-use Prim.Native.Nat.{ℕ, suc, ◌+◌, ◌-◌, ◌≤◌}
+use Prim.Native.Nat.{ℕ, suc, ◌+◌}
 use mathlib.Core.Path.{◌≡◌, refl, sym, ap, ap₂, ◌∙◌}
 use mathlib.Core.Bool.{◌&&◌, ◌||◌}
 use native.Mathlib.Numerals.{add-one}
@@ -15,7 +15,6 @@ use Rattle.ranks.specs.UnionLaws.{empty_union}
 use Rattle.state.specs.State.{marked}
 use Rattle.well_formed.specs.Survey.{block_size, reached, weighing_of, writers_ordered}
 use Rattle.well_formed.proofs.OrderLaws.{first_alone_all}
-use borrow.Author.Rules.{rules}
 use Rattle.well_formed.proofs.order.writers_wrong.Goals as goal
 
 pub returns-then-is_empty : goal.returns-then-is_empty
