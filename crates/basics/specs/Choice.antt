@@ -5,7 +5,6 @@ use Rattle.std.proofs.Common.{ap₂, arith, leb-true, leb-false, le-leb}
 
 infixr 5 ◌if◌else◌
 infixr 5 ◌or_else◌
-
 -- `8 if p else 9 if q else 0`: a refusal by its first condition that holds, 0 where none does
 abbrev pub ◌if◌else◌ : ℕ → Bool → ℕ → ℕ
 ◌if◌else◌ n true rest = n

@@ -1,5 +1,6 @@
 // Events answered by `event` on a state by value, one after the other, so that a C program can time that call.
 #![tactic(auto)]
+
 ghost use Rattle.std.specs.Prelude.{◌≡◌};
 ghost use Rattle.table.specs.Reading.{read_table};
 ghost use Rattle.by_value.specs.Mixing.{mixed};

@@ -1,5 +1,6 @@
 // The lines of the bench record, laid one at a time at the front of a lent buffer. Each function answers its line's length.
 #![tactic(auto)]
+
 ghost use Rattle.lines.specs.Lines.{header_line, event_line, end_line, short_line, refused_line, LineLaid};
 
 mod lay;

@@ -1,5 +1,6 @@
 // The state page for the service screen, written into a lent buffer: a line for each active job.
 #![tactic(auto)]
+
 ghost use Rattle.std.specs.Prelude.{◌≡◌, ◌≤◌, length};
 ghost use Rattle.state.specs.State.{state_of};
 ghost use Rattle.state.specs.Clauses.{Within};

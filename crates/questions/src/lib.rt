@@ -1,5 +1,6 @@
 // The questions on a state: a job's inherited rank and named lock, an object's ceilings, the rank that a processor runs.
 #![tactic(auto)]
+
 ghost use Rattle.std.specs.Prelude.{◌≡◌};
 ghost use Rattle.state.specs.Facts.{Sized};
 ghost use Rattle.questions.specs.Questions as Q;

@@ -1,5 +1,6 @@
 // Events taken from bytes and answered one after the other, their lines laid one behind the other.
 #![tactic(auto)]
+
 ghost use Rattle.std.specs.Prelude.{◌≡◌, ◌+◌, ◌*◌, ◌/◌, ◌^◌, ◌≤◌, ◌<◌, length};
 ghost use Rattle.state.specs.State.{state_of};
 ghost use Rattle.manager.specs.Step.{step};

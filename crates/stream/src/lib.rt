@@ -1,5 +1,6 @@
 // The bench over an input that comes in parts: the lines that the bytes at hand decide, and the last line.
 #![tactic(auto)]
+
 ghost use Rattle.std.specs.Prelude.{◌≡◌, ◌+◌, ◌*◌, ◌/◌, ◌-◌, ◌^◌, ◌≤◌, ◌<◌, min, length};
 ghost use Rattle.decimals.specs.Laid.{Laid};
 ghost use Rattle.lines.specs.Lines.{LineLaid};

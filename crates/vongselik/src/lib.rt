@@ -1,5 +1,6 @@
 // The lock manager for C: events, questions, tables, the state page and test loads on the parts of a state of the caller's, each lent by itself.
 #![tactic(auto)]
+
 ghost use Rattle.std.specs.Prelude.{◌≡◌};
 ghost use Rattle.state.specs.State.{counts_of, state_of};
 ghost use Rattle.events.specs.Answers.{paper};

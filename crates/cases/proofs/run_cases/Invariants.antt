@@ -1,6 +1,4 @@
 -- `cases::run_cases` is safe and ends: the measure is how many bytes of the text are left. Assumes nothing.
-use borrow.Author.Rules.{rules}
-use native.Mathlib.Omega.{arith}
 use lib.ListN.{length}
 use Rattle.cases.proofs.run_cases.Given as goal
 

@@ -2,7 +2,6 @@
 -- Assumes nothing.
 use native.Mathlib.Omega.{arith}
 use Rattle.lines.specs.LineLaws.{line_laid}
-use borrow.Author.Rules.{rules}
 use Rattle.lines.proofs.short_line.Goals as goal
 
 pub returns : goal.returns

@@ -1,15 +1,8 @@
 -- `manager::act_each` meets its contract: as many events as both lists hold are answered from one test of the state.
 -- Assumes nothing.
-use Prim.Native.Nat.{ℕ, ◌*◌}
-use mathlib.Core.Path.{◌≡◌, sym, ap, ◌∙◌}
-use native.Mathlib.Omega.{arith}
-use lib.ListN.{length, take}
-use lib.Seq.{length-take-le}
-use Rattle.state.specs.declared.State.{State}
+use mathlib.Core.Path.{◌∙◌}
 use Rattle.state.specs.State.{state_of}
-use Rattle.manager.specs.EventList.{state_after}
 use Rattle.manager.proofs.AnsweringLaws.{front_stored}
-use borrow.Author.Rules.{rules}
 use Rattle.manager.proofs.act_each.Goals as goal
 
 pub returns-clause-answers : goal.returns-clause-answers

@@ -1,7 +1,6 @@
 -- `manager::act_known` meets its contract: a state that is not well formed leaves by 8 as it came; in any other the event is that of its kind.
 -- Assumes nothing.
 use mathlib.Core.Path.{sym, ◌∙◌}
-use borrow.Author.Tests.{not-true, not-false}
 use Rattle.state.specs.declared.State.{State}
 use Rattle.state.specs.State.{state_of}
 use Rattle.manager.specs.Step.{step_8}

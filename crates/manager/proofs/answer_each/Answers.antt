@@ -3,10 +3,7 @@
 -- event; fewer than three are no event. It ends because the bytes left fall. Assumes nothing.
 use Prim.Native.Nat.{◌-◌}
 use native.Mathlib.Omega.{arith}
-use lib.ListN.{length}
-use Rattle.state.specs.State.{state_of}
-use Rattle.manager.proofs.AnsweringLaws.{Answered, answered_none, answered_more, answered_all}
-use borrow.Author.Rules.{rules}
+use Rattle.manager.proofs.AnsweringLaws.{answered_more, answered_all}
 use Rattle.manager.proofs.answer_each.Goals as goal
 
 pub loop-at-preserved : goal.loop-at-preserved

@@ -2,11 +2,9 @@
 -- bytes that are left, from the state that the parts are now; and whether that state is well formed is still known. A turn takes the three bytes of one
 -- event; fewer than three are no event. It ends because the bytes left fall. Assumes nothing.
 use Prim.Native.Nat.{◌-◌}
-use native.Mathlib.Omega.{arith}
 use lib.ListN.{length}
 use Rattle.state.specs.State.{state_of}
-use Rattle.manager.proofs.AnsweringLaws.{Answered, answered_none, answered_more, answered_all}
-use borrow.Author.Rules.{rules}
+use Rattle.manager.proofs.AnsweringLaws.{Answered}
 use Rattle.manager.proofs.answer_each.Given as goal
 
 abbrev pub invariant-loop-at : goal.invariant-loop-at

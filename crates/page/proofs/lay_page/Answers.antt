@@ -1,6 +1,6 @@
 -- `page::lay_page` meets its contract: by the locks that the ranks name and the ranks that the processors run, as `lines_by_lem` says.
 -- Assumes nothing.
-use mathlib.Core.Path.{◌≡◌, sym, subst, ap, ◌∙◌}
+use mathlib.Core.Path.{sym, subst, ap, ◌∙◌}
 use mathlib.Core.List.{List}
 use Prim.Native.Nat.{ℕ, ◌%◌, ◌≤◌}
 use lib.ListN.{length}
@@ -11,9 +11,7 @@ use Rattle.rule.specs.Parts.{named_waits_parts}
 use Rattle.inheritance.specs.Inheriting.{NamedBy}
 use Rattle.inheritance.specs.Parts.{run_state}
 use Rattle.decimals.specs.Laid.{at_front}
-use Rattle.page.specs.Page.{page}
-use Rattle.page.specs.Parts.{RunsBy, lines_by, lines_by_lem}
-use borrow.Author.Rules.{rules}
+use Rattle.page.specs.Parts.{RunsBy, lines_by_lem}
 use Rattle.page.proofs.lay_page.Goals as goal
 use Rattle.page.proofs.lay_page.Goals.{Start}
 

@@ -1,26 +1,20 @@
 -- `page::write_page` meets its contract: refused by 8 where the test of the state fails; else the active jobs count the lines, so that `length` is the page's;
 -- refused by 22 where the buffer is shorter; else the page is laid at the front.
 -- Assumes nothing.
-use mathlib.Core.Path.{◌≡◌, sym, subst, ap, ◌∙◌}
+use mathlib.Core.Path.{sym, subst, ap, ◌∙◌}
 use mathlib.Core.Bool.{true}
 use mathlib.Core.List.{List, [], ◌∷◌}
 use Prim.Native.Nat.{ℕ, ◌*◌, ◌≤◌}
 use native.Mathlib.Omega.{arith}
-use lib.Count.{ones-le}
 use lib.ListN.{length}
-use borrow.Author.Tests.{not-true, not-false}
 use Rattle.basics.specs.Replies.{told}
 use Rattle.state.specs.declared.State.{State}
 use Rattle.state.specs.State.{state_of}
-use Rattle.state.specs.WellFormed.{well_formed}
-use Rattle.state.specs.Facts.{Facts}
 use Rattle.state.specs.WellFormedFacts.{facts}
 use Rattle.decimals.specs.Laid.{at_front}
-use Rattle.page.specs.Page.{page}
 use Rattle.page.specs.PageLaws.{page_length, refused_by_8, refused_by_22, page_written_lem}
 use Rattle.page.specs.Parts.{page_parts}
 use Rattle.state.specs.Holders.{holder_facts, held_facts}
-use borrow.Author.Rules.{rules}
 use Rattle.page.proofs.write_page.Goals as goal
 use Rattle.page.proofs.write_page.Goals.{Start}
 

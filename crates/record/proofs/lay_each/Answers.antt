@@ -3,10 +3,7 @@
 -- It ends because the bytes left fall. Assumes nothing.
 use Prim.Native.Nat.{◌-◌}
 use native.Mathlib.Omega.{arith}
-use lib.ListN.{length}
-use Rattle.state.specs.State.{state_of}
-use Rattle.record.proofs.RunLaws.{Run, run_start, run_turn, run_end}
-use borrow.Author.Rules.{rules}
+use Rattle.record.proofs.RunLaws.{run_turn, run_end}
 use Rattle.record.proofs.lay_each.Goals as goal
 
 pub loop-at-preserved : goal.loop-at-preserved

@@ -2,11 +2,9 @@
 -- bytes that are left, from the state that the parts are now. A turn takes the three bytes of one event; fewer than three are no event.
 -- It ends because the bytes left fall. Assumes nothing.
 use Prim.Native.Nat.{◌-◌}
-use native.Mathlib.Omega.{arith}
 use lib.ListN.{length}
 use Rattle.state.specs.State.{state_of}
-use Rattle.record.proofs.RunLaws.{Run, run_start, run_turn, run_end}
-use borrow.Author.Rules.{rules}
+use Rattle.record.proofs.RunLaws.{Run}
 use Rattle.record.proofs.lay_each.Given as goal
 
 abbrev pub invariant-loop-at : goal.invariant-loop-at

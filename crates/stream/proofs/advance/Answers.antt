@@ -10,7 +10,6 @@ use Rattle.stream.specs.declared.Bench.{Bench}
 use Rattle.stream.specs.Parts.{answering, most_lines}
 use Rattle.stream.specs.Advancing.{advance_none, advance_open, advance_events}
 use Rattle.stream.proofs.LayLaws.{nothing_done, advances_is}
-use borrow.Author.Rules.{rules}
 use Rattle.stream.proofs.advance.Goals as goal
 
 pub returns-then-bench-eq1 : goal.returns-then-bench-eq1

@@ -3,7 +3,6 @@
 use native.Mathlib.Omega.{arith}
 use Rattle.decimals.specs.Laid.{laid_is}
 use Rattle.stream.proofs.LayLaws.{last_cut, last_refused, last_end, last_short, nothing_laid}
-use borrow.Author.Rules.{rules}
 use Rattle.stream.proofs.lay_last.Goals as goal
 
 pub returns-then-bench-eq1 : goal.returns-then-bench-eq1

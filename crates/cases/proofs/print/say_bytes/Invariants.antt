@@ -1,6 +1,5 @@
 -- `cases::print::say_bytes` is safe and ends: the measure is what is left of the bytes. Assumes nothing.
 use Prim.Native.Nat.{◌-◌}
-use native.Mathlib.Omega.{arith}
 use lib.ListN.{length}
 use Rattle.cases.proofs.print.say_bytes.Given as goal
 

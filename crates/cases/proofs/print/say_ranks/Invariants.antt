@@ -1,6 +1,5 @@
 -- `cases::print::say_ranks` is safe and ends: the measure is how many ranks are left. Assumes nothing.
 use Prim.Native.Nat.{◌-◌}
-use native.Mathlib.Omega.{arith}
 use Rattle.state.specs.State.{most_jobs}
 use Rattle.cases.proofs.print.say_ranks.Given as goal
 

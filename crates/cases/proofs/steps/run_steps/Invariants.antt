@@ -1,5 +1,4 @@
 -- `cases::steps::run_steps` is safe and ends: the measure is how many bytes of the steps are left. Assumes nothing.
-use native.Mathlib.Omega.{arith}
 use lib.ListN.{length}
 use Rattle.cases.proofs.steps.run_steps.Given as goal
 

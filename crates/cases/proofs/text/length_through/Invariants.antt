@@ -1,8 +1,6 @@
 -- `cases::text::length_through` meets its contract. The invariant: `i` is at most the length. The measure is what is left of the length. Assumes nothing.
 use Prim.Native.Nat.{◌≤◌, ◌-◌}
-use native.Mathlib.Omega.{arith}
 use lib.ListN.{length}
-use Rattle.io.proofs.Counting.{prefix_len_of_le}
 use Rattle.cases.proofs.text.length_through.Given as goal
 
 abbrev pub invariant-loop-i : goal.invariant-loop-i

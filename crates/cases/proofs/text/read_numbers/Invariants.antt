@@ -2,9 +2,7 @@
 -- The measure is what is left of the line. Assumes nothing.
 use Prim.Native.Nat.{◌≤◌, ◌-◌}
 use mathlib.Core.Path.{◌≡◌}
-use native.Mathlib.Omega.{arith}
-use lib.ListN.{length, length-set}
-use Rattle.io.proofs.Counting.{prefix_len_of_le}
+use lib.ListN.{length}
 use Rattle.cases.proofs.text.read_numbers.Given as goal
 
 abbrev pub invariant-loop-i : goal.invariant-loop-i

@@ -9,7 +9,6 @@ use Rattle.events.specs.Answers.{paper}
 use Rattle.decimals.specs.Fields.{behind}
 use Rattle.lines.specs.Lines.{answer_fields}
 use Rattle.decimals.specs.Laid.{laid_then, laid_is}
-use borrow.Author.Rules.{rules}
 use Rattle.lines.proofs.lay.lay_answer.Goals as goal
 
 abbrev fields : Answer → List ℕ

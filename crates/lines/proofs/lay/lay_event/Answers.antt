@@ -7,7 +7,6 @@ use native.Mathlib.Nat.{le_refl}
 use Rattle.decimals.specs.Fields.{space}
 use Rattle.lines.specs.Lines.{event_line}
 use Rattle.decimals.specs.Laid.{laid_then, laid_is}
-use borrow.Author.Rules.{rules}
 use Rattle.lines.proofs.lay.lay_event.Goals as goal
 
 pub returns : goal.returns

@@ -1,7 +1,6 @@
 -- `lines::lay::lay_last` meets its contract: a field, and the line feed behind it.
 -- Assumes nothing.
 use Rattle.decimals.specs.Laid.{laid_then}
-use borrow.Author.Rules.{rules}
 use Rattle.lines.proofs.lay.lay_last.Goals as goal
 
 pub returns : goal.returns

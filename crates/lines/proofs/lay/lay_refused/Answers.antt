@@ -2,7 +2,6 @@
 -- Assumes nothing.
 use Rattle.lines.specs.Lines.{refused_line}
 use Rattle.decimals.specs.Laid.{laid_then}
-use borrow.Author.Rules.{rules}
 use Rattle.lines.proofs.lay.lay_refused.Goals as goal
 
 pub returns : goal.returns

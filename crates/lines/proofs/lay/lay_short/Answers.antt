@@ -2,7 +2,6 @@
 -- Assumes nothing.
 use Rattle.lines.specs.Lines.{short_line}
 use Rattle.decimals.specs.Laid.{laid_then}
-use borrow.Author.Rules.{rules}
 use Rattle.lines.proofs.lay.lay_short.Goals as goal
 
 pub returns : goal.returns

@@ -9,7 +9,6 @@ use Rattle.decimals.specs.Fields.{space, line_feed, right_aligned, aligned_wider
 use Rattle.decimals.specs.Laid.{laid_then, laid_is, laid_whole}
 use Rattle.page.specs.Page.{named_field, line_of}
 use Rattle.page.specs.LineLaws.{FitFields, line_length}
-use borrow.Author.Rules.{rules}
 use Rattle.page.proofs.lines.lay_line.Goals as goal
 use Rattle.page.proofs.lines.lay_line.Goals.{Start}
 

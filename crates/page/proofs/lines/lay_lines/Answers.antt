@@ -7,7 +7,6 @@ use mathlib.Core.List.{List, ◌++◌}
 use Prim.Native.Nat.{ℕ, ◌≤◌, ◌<◌, ◌-◌, ◌+◌}
 use native.Mathlib.Omega.{arith}
 use lib.ListN.{length, take, drop, length-append}
-use borrow.Author.Tests.{not-true, not-false}
 use Rattle.basics.specs.Arrays.{at}
 use Rattle.basics.specs.Loops.{joined}
 use Rattle.ranks.specs.Ranks.{member}

@@ -1,20 +1,11 @@
 -- `page::lines::lay_lines` meets its contract. The loop's invariant: the lines of the ranks passed stand at the front, up to `end`, and the bytes behind are as
 -- they were. A turn lays the line of an active rank into the 21 bytes behind them, and the number of ranks left falls.
 -- Assumes nothing.
-use mathlib.Core.Path.{◌≡◌, refl, sym, ap, ◌∙◌}
-use mathlib.Core.Bool.{true}
-use mathlib.Core.List.{List, ◌++◌}
-use Prim.Native.Nat.{ℕ, ◌≤◌, ◌<◌, ◌-◌, ◌+◌}
-use native.Mathlib.Omega.{arith}
-use lib.ListN.{length, take, drop, length-append}
-use borrow.Author.Tests.{not-true, not-false}
-use Rattle.basics.specs.Arrays.{at}
-use Rattle.basics.specs.Loops.{joined}
-use Rattle.ranks.specs.Ranks.{member}
-use Rattle.state.specs.State.{most_processors}
-use Rattle.decimals.specs.Laid.{at_front, front_more, front_length}
-use Rattle.page.specs.Parts.{line_by, lines_by, line_by_length, lines_more, lines_same, room_for_line}
-use borrow.Author.Rules.{rules}
+use mathlib.Core.Path.{◌≡◌}
+use Prim.Native.Nat.{◌≤◌, ◌-◌}
+use lib.ListN.{length}
+use Rattle.decimals.specs.Laid.{at_front}
+use Rattle.page.specs.Parts.{lines_by}
 use Rattle.page.proofs.lines.lay_lines.Given as goal
 
 abbrev pub invariant-loop-rank : goal.invariant-loop-rank

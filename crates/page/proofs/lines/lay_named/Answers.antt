@@ -2,10 +2,9 @@
 -- Assumes nothing.
 use mathlib.Core.Path.{sym}
 use native.Mathlib.Nat.{le_refl}
-use borrow.Author.Tests.{eq-eqb, ne_eqb}
+use borrow.Author.Tests.{eq-eqb}
 use Rattle.decimals.specs.Fields.{right_aligned}
 use Rattle.decimals.specs.Laid.{laid_then, laid_is}
-use borrow.Author.Rules.{rules}
 use Rattle.page.proofs.lines.lay_named.Goals as goal
 
 pub returns-then-holder-eq0 : goal.returns-then-holder-eq0

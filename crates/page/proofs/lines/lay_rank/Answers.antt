@@ -3,7 +3,6 @@
 use mathlib.Core.Path.{sym, subst, ap, ◌∙◌}
 use mathlib.Core.Bool.{not}
 use Prim.Native.Nat.{ℕ, ◌-◌, ◌<◌}
-use native.Mathlib.Omega.{arith}
 use lib.Dec.{eqb}
 use lib.ListN.{get_or}
 use Rattle.basics.specs.Arrays.{at_index}
@@ -11,7 +10,6 @@ use Rattle.state.specs.State.{most_processors}
 use Rattle.weights.specs.Keys.{key_holder, key_object}
 use Rattle.page.specs.Page.{letter_of, line_of}
 use Rattle.page.specs.Parts.{line_by}
-use borrow.Author.Rules.{rules}
 use Rattle.page.proofs.lines.lay_rank.Goals as goal
 use Rattle.page.proofs.lines.lay_rank.Goals.{Start}
 

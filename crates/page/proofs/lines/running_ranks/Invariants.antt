@@ -1,14 +1,12 @@
 -- `page::lines::running_ranks` meets its contract. The loop's invariant: the element of each processor passed is the rank that it runs, and the others are 0. A
 -- turn stores one more, and the number of processors left falls.
 -- Assumes nothing.
-use mathlib.Core.Path.{◌≡◌, subst, ap, ◌∙◌}
-use Prim.Native.Nat.{ℕ, ◌≤◌, ◌-◌, ◌+◌}
-use native.Mathlib.Omega.{arith}
+use mathlib.Core.Path.{◌≡◌}
+use Prim.Native.Nat.{◌≤◌, ◌-◌}
 use lib.ListN.{length}
-use Rattle.basics.specs.Arrays.{FilledTo, filled_none, filled_more}
+use Rattle.basics.specs.Arrays.{FilledTo}
 use Rattle.state.specs.State.{most_processors}
 use Rattle.inheritance.specs.Inheriting.{running_by}
-use borrow.Author.Rules.{rules}
 use Rattle.page.proofs.lines.running_ranks.Given as goal
 
 abbrev pub invariant-loop-processor : goal.invariant-loop-processor

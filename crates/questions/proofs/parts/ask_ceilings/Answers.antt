@@ -12,7 +12,6 @@ use Rattle.state.specs.State.{state_of}
 use Rattle.questions.specs.declared.CeilingsAnswer.{CeilingsAnswer}
 use Rattle.refusals.specs.Refusals.{object_refusal, object_refusal_of}
 use Rattle.questions.specs.Questions as Q
-use borrow.Author.Rules.{rules}
 use Rattle.questions.proofs.parts.ask_ceilings.Goals as goal
 use Rattle.questions.proofs.parts.ask_ceilings.Goals.{After-object_refusal-number, Start}
 

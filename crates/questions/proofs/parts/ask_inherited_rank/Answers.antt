@@ -12,7 +12,6 @@ use Rattle.state.specs.State.{state_of}
 use Rattle.questions.specs.declared.RankAnswer.{RankAnswer}
 use Rattle.refusals.specs.Refusals.{job_refusal, job_refusal_of}
 use Rattle.questions.specs.Questions as Q
-use borrow.Author.Rules.{rules}
 use Rattle.questions.proofs.parts.ask_inherited_rank.Goals as goal
 use Rattle.questions.proofs.parts.ask_inherited_rank.Goals.{After-job_refusal-number, Start}
 

@@ -17,7 +17,6 @@ use Rattle.state.specs.State.{most_jobs, state_of, request_of}
 use Rattle.questions.specs.declared.NamedAnswer.{NamedAnswer}
 use Rattle.refusals.specs.Refusals.{job_refusal, job_refusal_of}
 use Rattle.questions.specs.Questions as Q
-use borrow.Author.Rules.{rules}
 use Rattle.questions.proofs.parts.ask_named_lock.Goals as goal
 use Rattle.questions.proofs.parts.ask_named_lock.Goals.{After-job_refusal-number, Else-number-ne0, Start}
 
@@ -33,12 +32,12 @@ unfolding job_refusal
 number c = let a = c.args in c.job_refusal-number.ensures ∙ ap (λ (b : Bool). job_refusal_of b a.counts.jobs a.active a.rank) c.fits_sized-well.ensures.0
 
 known : (c : Else-number-ne0) →
-     Asking (whole c.before.before.before) × ((1 ≤ c.args.rank) × (c.args.rank ≤ most_jobs))
-known c =  job_asking (whole c.before.before.before) c.args.rank ((sym (number c.before) ∙ c.if-number-ne0.false))
+    Asking (whole c.before.before.before) × ((1 ≤ c.args.rank) × (c.args.rank ≤ most_jobs))
+known c = job_asking (whole c.before.before.before) c.args.rank ((sym (number c.before) ∙ c.if-number-ne0.false))
 
 held : (c : Else-number-ne0) →
-     HolderFacts (held_of (whole c.before.before.before))
-held c =  well_held (whole c.before.before.before) c.fits_sized-well.ensures.1 (known c).0.well
+    HolderFacts (held_of (whole c.before.before.before))
+held c = well_held (whole c.before.before.before) c.fits_sized-well.ensures.1 (known c).0.well
 
 pub job_refusal-number-requires : goal.job_refusal-number-requires
 job_refusal-number-requires c = λ w. (asking (whole c.before) (sym c.fits_sized-well.ensures.0 ∙ w)).jobs_fit

@@ -11,7 +11,6 @@ use Rattle.state.specs.State.{state_of}
 use Rattle.questions.specs.declared.RankAnswer.{RankAnswer}
 use Rattle.refusals.specs.Refusals.{processor_refusal, processor_refusal_of}
 use Rattle.questions.specs.Questions as Q
-use borrow.Author.Rules.{rules}
 use Rattle.questions.proofs.parts.ask_running.Goals as goal
 use Rattle.questions.proofs.parts.ask_running.Goals.{After-processor_refusal-number, Start}
 

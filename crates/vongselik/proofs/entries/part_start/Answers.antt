@@ -2,14 +2,13 @@
 -- A turn adds an entry's bytes if its test holds. The measure is how many entries are left.
 -- Assumes nothing.
 use mathlib.Core.Path.{◌≡◌, ap, ◌∙◌}
-use Prim.Native.Nat.{ℕ, ◌+◌, ◌-◌, ◌*◌, ◌≤◌}
+use Prim.Native.Nat.{ℕ, ◌+◌, ◌-◌, ◌*◌}
 use native.Mathlib.Omega.{arith}
 use lib.Dec.{ltb}
 use Rattle.basics.specs.Loops.{one_if}
 use Rattle.table_bytes.specs.Bytes.{byte, word, entry_count, entry_start}
 use Rattle.table_bytes.specs.AcceptedTable.{accepted_table}
 use Rattle.vongselik.specs.Entries.{smaller_entries, part_start, smaller_more, smaller_le}
-use borrow.Author.Rules.{rules}
 use Rattle.vongselik.proofs.entries.part_start.Goals as goal
 
 pub bounds-bytes-6 : goal.bounds-bytes-6

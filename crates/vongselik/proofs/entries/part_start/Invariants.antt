@@ -1,15 +1,9 @@
 -- `vongselik::entries::part_start` meets its contract. The loop's invariant: `start` is behind as many entries as are of smaller ranks among those passed.
 -- A turn adds an entry's bytes if its test holds. The measure is how many entries are left.
 -- Assumes nothing.
-use mathlib.Core.Path.{◌≡◌, ap, ◌∙◌}
-use Prim.Native.Nat.{ℕ, ◌+◌, ◌-◌, ◌*◌, ◌≤◌}
-use native.Mathlib.Omega.{arith}
-use lib.Dec.{ltb}
-use Rattle.basics.specs.Loops.{one_if}
-use Rattle.table_bytes.specs.Bytes.{byte, word, entry_count, entry_start}
-use Rattle.table_bytes.specs.AcceptedTable.{accepted_table}
-use Rattle.vongselik.specs.Entries.{smaller_entries, part_start, smaller_more, smaller_le}
-use borrow.Author.Rules.{rules}
+use mathlib.Core.Path.{◌≡◌}
+use Prim.Native.Nat.{◌+◌, ◌-◌, ◌*◌, ◌≤◌}
+use Rattle.vongselik.specs.Entries.{smaller_entries}
 use Rattle.vongselik.proofs.entries.part_start.Given as goal
 
 abbrev pub invariant-loop-entry : goal.invariant-loop-entry

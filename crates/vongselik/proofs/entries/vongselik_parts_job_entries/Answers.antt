@@ -6,7 +6,6 @@ use lib.ListN.{length}
 use Rattle.table.specs.JobEntries.{job_entries_refusal}
 use Rattle.table.specs.JobPart.{job_accepted}
 use Rattle.vongselik.specs.Entries.{cells_kept, cells_filled}
-use borrow.Author.Rules.{rules}
 use Rattle.vongselik.proofs.entries.vongselik_parts_job_entries.Goals as goal
 
 pub part_start-requires : goal.part_start-requires

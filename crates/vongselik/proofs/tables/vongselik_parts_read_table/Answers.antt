@@ -1,12 +1,10 @@
 -- `vongselik::tables::vongselik_parts_read_table` meets its contract: a refusal stores nothing; otherwise each part of the fresh state is stored.
 -- Assumes nothing.
 use mathlib.Core.Path.{◌≡◌, sym, ap, ◌∙◌}
-use Rattle.state.specs.declared.State.{State}
 use Rattle.state.specs.State.{counts_of, state_of}
 use Rattle.table.specs.declared.TableRead.{TableRead}
 use Rattle.table.specs.Reading.{read_table}
 use Rattle.vongselik.specs.Lending.{read_kept, read_filled}
-use borrow.Author.Rules.{rules}
 use Rattle.vongselik.proofs.tables.vongselik_parts_read_table.Goals as goal
 
 pub returns-then-read-ne0-clause-used : goal.returns-then-read-ne0-clause-used
