@@ -1,5 +1,5 @@
 // Runs the bench on each file that an argument names, in parts of one byte, of five, and as large as they come; then on an input that is longer
-// than its buffer, where no record, where no failure can be written, and where standard input is closed. Each run's record is followed by how it ended.
+// than its buffer, where no record, where no failure can be written, and on an input that cannot be read. Each run's record is followed by how it ended.
 #![tactic(auto)]
 
 use recorder::{Ended, InputBuffer, RecordBuffer, Recorded};
@@ -12,9 +12,6 @@ use std::str;
 
 // The descriptor of standard output.
 const STANDARD_OUTPUT: i32 = 1;
-
-// The descriptor of standard error.
-const STANDARD_ERROR: i32 = 2;
 
 // A file that was opened, or none, whose reads fail.
 #[derive(Drop)]
@@ -161,14 +158,7 @@ fn run_arguments<R: Files<File = File> + Env>(
 fn run_closed(input: &mut InputBuffer, lines: &mut RecordBuffer) {
     io::write_all(STANDARD_OUTPUT, b"standard input, closed:\n");
     let mut none = Opened(None);
-    let recorded = recorder::write_record(
-        &mut none,
-        STANDARD_OUTPUT,
-        STANDARD_ERROR,
-        32768,
-        input,
-        lines,
-    );
+    let recorded = recorder::write_standard(&mut none, input, lines);
     say_recorded(recorded);
 }
 

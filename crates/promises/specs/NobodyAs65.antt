@@ -1,5 +1,5 @@
 -- The rule with 65 for nobody, as it stood before 02, CR 4 ("no longer 65"). It is there to be compared with, in proofs/Nobody.antt and in the theorems
--- `nobody-..` of proofs/Promises.antt, and nothing else uses it. Each definition is the rule's own of the same name without 65, with the ceilings of this file;
+-- `nobody_..` of proofs/Promises.antt, and nothing else uses it. Each definition is the rule's own of the same name without 65, with the ceilings of this file;
 -- what asks for no ceiling is not written again: refusals, the order of keys, what an event changes. It is a rule for both versions, as the rule is.
 -- Assumes nothing.
 use Rattle.std.specs.Prelude.{Bool, ◌&&◌, ℕ, ◌+◌, ◌*◌, ◌%◌, eqb, if◌then◌else◌}

@@ -211,7 +211,18 @@ pub fn write_record<R: Read>(
     recorded
 }
 
-// The record of standard input, written to standard output; where a read or a write fails it says so on standard error.
+// The record of what comes on `from`, written to standard output; where a read or a write fails it says so on standard error.
+pub fn write_standard<R: Read>(
+    from: &mut R,
+    input: &mut InputBuffer,
+    lines: &mut RecordBuffer,
+) -> Recorded
+    ensures { Records result input.new lines.old lines.new }
+{
+    write_record(from, STANDARD_OUTPUT, STANDARD_ERROR, 32768, input, lines)
+}
+
+// The record of standard input, written as `write_standard` writes it.
 pub fn write_standard_record(
     rt: &impl Input,
     input: &mut InputBuffer,
@@ -220,12 +231,5 @@ pub fn write_standard_record(
     ensures { Records result input.new lines.old lines.new }
 {
     let mut from = rt.reader();
-    write_record(
-        &mut from,
-        STANDARD_OUTPUT,
-        STANDARD_ERROR,
-        32768,
-        input,
-        lines,
-    )
+    write_standard(&mut from, input, lines)
 }

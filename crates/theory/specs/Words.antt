@@ -155,7 +155,7 @@ module _ (label : ℕ → Label) where
   -- "Meanwhile is from the event that began the wait to the one that ended the last of those runs,
   -- that one and its woken grant included."
   -- Event i is meanwhile: event r began the wait of job j, and just before event i one of those runs goes on.
-  -- (So i is from r to the event that EndsLast tells: meanwhile-until in proofs/Demand.)
+  -- (So i is from r to the event that EndsLast tells: meanwhile_until in proofs/Demand.)
   pub record Meanwhile (j r i : ℕ) : Type 0 where
     pub since : r ≤ i
     pub job : ℕ
@@ -181,7 +181,7 @@ module _ (label : ℕ → Label) where
     pub most_urgent : (h : ℕ) → LockHolder h t → ¬ MoreUrgent h m
 
   -- "name one and the same job, the most urgent lock holder, which isn't waiting"
-  -- At time t job j, in its run that event `start` began, names `named_job`. (One and the same: same-name in proofs/Demand.)
+  -- At time t job j, in its run that event `start` began, names `named_job`. (One and the same: same_name in proofs/Demand.)
   pub record NamesMostUrgent (named : ℕ → ℕ → ℕ) (j t : ℕ) : Type 0 where
     pub named_job : ℕ
     pub start : ℕ

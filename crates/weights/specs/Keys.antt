@@ -15,7 +15,7 @@ lock_key weighs holder object = weighs * 65536 + holder * 256 + object
 abbrev pub no_weight : ℕ
 no_weight = 257
 
--- above the key of every lock, by its weight (no-key-above)
+-- above the key of every lock, by its weight (no_key_above)
 abbrev pub no_key : ℕ
 no_key = lock_key no_weight 0 0
 
