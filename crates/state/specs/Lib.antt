@@ -11,3 +11,5 @@ pub mod WellFormedFacts
 pub mod Changes
 pub mod Holders
 pub mod Keeping
+pub mod Lent
+pub mod RefusalNumbers

@@ -1,14 +1,20 @@
 // The lock manager's state, and questions about its parts. Ranks and objects count from 1; rank 1 is the most urgent.
 #![tactic(auto)]
 
+mod fresh;
+mod lent;
 mod limits;
 mod marks;
 mod parts;
+mod refusal;
 
+pub use fresh::{fresh_state, zero_state};
+pub use lent::{Parts, PartsMut};
 pub use limits::{counts_within, is_version, within};
 pub use marks::{is_marked, shares_with_none, weighing};
 pub use parts::{none_waits, of_mode, union_of};
 use ranks::RankSet;
+pub use refusal::{Refusal, refusal_number};
 
 // A table's version, and how many processors, jobs and objects it has.
 #[derive(Clone, Copy)]

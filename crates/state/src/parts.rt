@@ -21,10 +21,8 @@ pub fn union_of(sets: Sets, from: usize, count: usize) -> RankSet
     ensures { result ≡ unions count (λ k. at sets.entry.now (from + k)) }
 {
     let mut all = EMPTY;
-    let mut k = 0;
-    while k < count {
+    for k in 0..count {
         all = union(all, sets[from + k]);
-        k += 1;
     }
     all
 }
@@ -35,10 +33,8 @@ pub fn none_waits(request: &JobRequests, from: usize, count: usize) -> bool
     ensures { result ≡ every count (λ k. eqb (at request.now (from + k)) 0) }
 {
     let mut any = 0;
-    let mut k = 0;
-    while k < count {
-        any = any | request[from + k];
-        k += 1;
+    for k in 0..count {
+        any |= request[from + k];
     }
     any == 0
 }

@@ -1,5 +1,4 @@
 -- `state::none_waits` meets its contract. The loop's invariant: the joined requests are 0 if and only if the first k are; a turn joins one more.
--- It ends because what is left of the count falls.
 -- Assumes nothing.
 use Prim.Native.Nat.{ℕ, suc, ◌+◌}
 use mathlib.Core.Path.{◌≡◌, refl, sym, ap, ap₂, ◌∙◌}

@@ -1,7 +1,6 @@
 -- `state::none_waits` meets its contract. The loop's invariant: the joined requests are 0 if and only if the first k are; a turn joins one more.
--- It ends because what is left of the count falls.
 -- Assumes nothing.
-use Prim.Native.Nat.{◌+◌, ◌-◌, ◌≤◌}
+use Prim.Native.Nat.{◌+◌, ◌≤◌}
 use mathlib.Core.Path.{◌≡◌}
 use lib.Dec.{eqb}
 use Rattle.basics.specs.Arrays.{at}
@@ -10,6 +9,3 @@ use Rattle.state.proofs.parts.none_waits.Given as goal
 
 abbrev pub invariant-loop-k : goal.invariant-loop-k
 invariant-loop-k l = (l.k ≤ l.count) × (eqb l.any 0 ≡ every l.k (λ j. eqb (at l.request (l.from + j)) 0))
-
-abbrev pub decreases-loop-k : goal.decreases-loop-k
-decreases-loop-k l = l.count - l.k

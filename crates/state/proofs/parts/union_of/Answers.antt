@@ -1,5 +1,4 @@
 -- `state::union_of` meets its contract. The loop's invariant: the union is that of the first k sets; a turn joins one more.
--- It ends because what is left of the count falls.
 -- Assumes nothing.
 use Prim.Native.Nat.{◌+◌}
 use mathlib.Core.Path.{refl, sym, ap, ap₂, ◌∙◌}
