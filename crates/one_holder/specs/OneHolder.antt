@@ -12,7 +12,6 @@ use Rattle.state.specs.Weights.{more_urgent, ceiling_of, weight}
 use Rattle.state.specs.WeightLaws.{weighing_of}
 use Rattle.weights.specs.Keys.{no_key, key_weight}
 use Rattle.weights.specs.ObjectKeys.{held_key, writers_weight}
-use Rattle.weights.specs.Parts.{locks_state}
 
 -- the lowest key among the locks that h holds on o
 abbrev pub holder_key_at : State → ℕ → ℕ → ℕ
@@ -46,12 +45,12 @@ abbrev pub own_key : Counts → Bool → ℕ → ℕ → ℕ → ℕ → ℕ →
 own_key c none readers writers may_read may_write o h =
     min (held_key readers (more_urgent (ceiling_of c may_write) h) o h) (held_key writers (writers_weight c none may_read may_write) o h)
 
-pub own_key_there : (counts : Counts) (may_read may_write readers writers certified : List ℕ) (h o : ℕ) → 1 ≤ o
-    → holder_key_at (locks_state counts may_read may_write readers writers certified) h o
-    ≡ own_key counts (eqb counts.version 1 || marked certified o) (get_or readers (o - 1) 0) (get_or writers (o - 1) 0) (get_or may_read (o - 1) 0) (get_or may_write (o - 1) 0) o h
+pub own_key_there : (s : State) (h o : ℕ) → 1 ≤ o
+    → holder_key_at s h o
+    ≡ own_key s.counts (eqb s.counts.version 1 || marked s.certified o) (get_or s.readers (o - 1) 0) (get_or s.writers (o - 1) 0) (get_or s.may_read (o - 1) 0) (get_or s.may_write (o - 1) 0) o h
 unfolding weight
-own_key_there counts may_read may_write readers writers certified h o low =
-    rw (sym (at_index readers o low), sym (at_index writers o low), sym (at_index may_read o low), sym (at_index may_write o low)) refl
+own_key_there s h o low =
+    rw (sym (at_index s.readers o low), sym (at_index s.writers o low), sym (at_index s.may_read o low), sym (at_index s.may_write o low)) refl
 
 -- the ranks whose most urgent one is what h's lock on an object weighs, by the object's sets and whether its write lock shares with none: those that a write lock
 -- weighs by, if it has that; of a read lock those declared to write the object, and h, the cap

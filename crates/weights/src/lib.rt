@@ -2,7 +2,7 @@
 // A function sees the parts of a state that it asks about: an object's sets of ranks by value, an object's array by reference.
 #![tactic(auto)]
 
-ghost use Rattle.std.specs.Prelude.{◌≡◌, ◌||◌, ℕ, ◌≤◌, min, eqb};
+ghost use Rattle.std.specs.Prelude.{◌≡◌, ◌||◌, ℕ, ◌≤◌, eqb};
 ghost use Rattle.ranks.specs.Ranks.{first, union};
 ghost use Rattle.state.specs.State.{most_jobs, most_objects, marked};
 ghost use Rattle.state.specs.Weights as W;
@@ -10,7 +10,7 @@ ghost use Rattle.weights.specs.Keys as K;
 ghost use Rattle.weights.specs.ObjectKeys as O;
 
 use ranks::RankSet;
-use state::{Counts, ObjectMarks};
+use state::{Counts, ObjectMarks, weighing};
 
 // The key of no lock: above that of every lock, since its weight is above every weight.
 pub const NO_KEY: u64 = 257 * 65536;
@@ -46,13 +46,6 @@ pub fn ceiling(counts: Counts, set: RankSet) -> u16
     ranks::first(ranks::union(set, nobody(counts))) as u16
 }
 
-// The lower of two keys.
-pub fn lower(a: u64, b: u64) -> u64
-    ensures { result ≡ min a b }
-{
-    if a < b { a } else { b }
-}
-
 // The key of a lock: ordered by weight, then holder, then object.
 pub fn lock_key(weight: u16, holder: u8, object: u8) -> u64
     ensures { result ≡ K.lock_key weight holder object }
@@ -85,10 +78,8 @@ pub fn write_weight(
     requires { (1 ≤ object) × (object ≤ most_objects) }
     ensures { result ≡ O.writers_weight counts (eqb counts.version 1 || marked certified.now object) may_read may_write }
 {
-    let declared = if state::shares_with_none(counts.version, certified, object) {
-        ranks::union(may_read, may_write)
-    } else {
-        may_write
-    };
-    ceiling(counts, declared)
+    ceiling(
+        counts,
+        weighing(counts.version, certified, may_read, may_write, object),
+    )
 }

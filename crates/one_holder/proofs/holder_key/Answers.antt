@@ -1,5 +1,5 @@
--- `one_holder::holder_key` meets its contract. The loop's invariant: `lowest` is the lowest key on the gathered objects passed. It ends because what is left of
--- them falls; and the lowest over all gathered objects is the lowest of the holder's keys.
+-- `one_holder::holder_key` meets its contract. The loop's invariant: `lowest` is the lowest key on the gathered objects passed. The
+-- lowest over all gathered objects is the lowest of the holder's keys.
 -- Assumes nothing.
 use mathlib.Core.Path.{◌≡◌, refl, sym, ap, ap₂, ◌∙◌}
 use Prim.Native.Nat.{ℕ, ◌+◌, min}
@@ -7,7 +7,7 @@ use native.Mathlib.Omega.{arith}
 use Rattle.basics.specs.Arrays.{at, at_next}
 use Rattle.basics.specs.Loops.{least, least_more}
 use Rattle.weights.specs.Keys.{no_key}
-use Rattle.weights.specs.Parts.{locks_state}
+use Rattle.state.specs.Lent.{state_in}
 use Rattle.one_holder.specs.OneHolder.{holder_key_at}
 use Rattle.one_holder.specs.Gathering.{gathered_key}
 use Rattle.one_holder.proofs.holder_key.Goals as goal
@@ -26,17 +26,17 @@ own_key_at-key-requires c =
 pub loop-i-preserved : goal.loop-i-preserved
 loop-i-preserved c =
     let a = c.args in
-    let s = locks_state a.counts a.may_read.now a.may_write.now a.readers.now a.writers.now a.certified.now in
+    let s = state_in a.parts.now in
     let list = c.locked_by-locked.result.objects in
     let key : ℕ → ℕ = (λ k. holder_key_at s a.holder (at list k)) in (
       omega (arith, c.loop-i-test.true),
-      c.lower-lowest.ensures ∙ ap₂ min c.loop-i.invariant.1 (c.own_key_at-key.ensures ∙ ap (holder_key_at s a.holder) (sym (at_next list c.loop-i.i))) ∙ sym (least_more c.loop-i.i no_key key),
+      c.min-lowest.ensures ∙ ap₂ min c.loop-i.invariant.1 (c.own_key_at-key.ensures ∙ ap (holder_key_at s a.holder) (sym (at_next list c.loop-i.i))) ∙ sym (least_more c.loop-i.i no_key key),
     )
 
 pub returns : goal.returns
 returns c =
     let a = c.args in
-    let s = locks_state a.counts a.may_read.now a.may_write.now a.readers.now a.writers.now a.certified.now in
+    let s = state_in a.parts.now in
     let list = c.locked_by-locked.result.objects in
     let all : c.loop-i.i ≡ c.locked_by-locked.result.count = omega (arith, c.loop-i.invariant.0, c.loop-i-test.false) in
     c.loop-i.invariant.1 ∙ ap (λ (n : ℕ). least n no_key (λ k. holder_key_at s a.holder (at list k))) all

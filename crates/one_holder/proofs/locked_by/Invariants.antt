@@ -10,8 +10,8 @@ use Rattle.one_holder.proofs.locked_by.Given as goal
 
 abbrev pub invariant-loop-i : goal.invariant-loop-i
 invariant-loop-i l =
-    (l.i ≤ most_objects) × (l.count ≤ l.i) × (length l.objects ≡ most_objects) × LocksTo l.readers l.writers l.rank l.most l.i l.objects l.count
-    × HeldTo l.readers l.writers l.rank l.objects l.count
+    (l.i ≤ most_objects) × (l.count ≤ l.i) × (length l.objects ≡ most_objects) × LocksTo l.parts.readers.now l.parts.writers.now l.rank l.most l.i l.objects l.count
+    × HeldTo l.parts.readers.now l.parts.writers.now l.rank l.objects l.count
 
 abbrev pub decreases-loop-i : goal.decreases-loop-i
 decreases-loop-i l = l.most - l.i

@@ -13,4 +13,4 @@ returns-else-contains c =
     let a = c.args in
     let joined = c.union-held.ensures ∙ (λ i. union (c.union_of.ensures i) (c.union_of-2.ensures i)) in
     let none = ap (λ (set : ℕ). member set a.rank) (sym joined) ∙ sym c.contains.ensures ∙ c.if-contains.false in
-    inr (refl, omega (arith, c.if-from-ne0.false, c.requires), block_free a.readers.now a.writers.now a.rank a.from none)
+    inr (refl, omega (arith, c.if-from-ne0.false, c.requires), block_free a.parts.now.readers.now a.parts.now.writers.now a.rank a.from none)
