@@ -13,19 +13,15 @@ use Rattle.std.specs.Prelude.{if◌then◌else◌}
 use Rattle.basics.specs.Loops.{every, every-at, least, least-le, least_more, first_nonzero, first_nonzero_none, first_nonzero_at, all_zero_first}
 use Rattle.basics.specs.Arrays.{at}
 use Rattle.ranks.specs.Ranks.{member}
-use Rattle.state.specs.declared.Counts.{Counts}
 use Rattle.state.specs.declared.State.{State}
 use Rattle.state.specs.State.{most_jobs, request_of, is_waiting}
-use Rattle.state.specs.Weights.{weight}
-use Rattle.state.specs.Holders.{HolderFacts, held_state, carried_small}
-use Rattle.weights.specs.Keys.{no_key, others_key, object_key, lowest_key_by}
-use Rattle.weights.specs.Parts.{locks_state}
+use Rattle.state.specs.Holders.{HolderFacts, carried_small}
+use Rattle.weights.specs.Keys.{no_key}
 use Rattle.one_holder.specs.OneHolder.{holder_key_at, holder_key, deciding_key, passes_lock, against_other}
 use Rattle.one_holder.specs.OneHolderLaws.{deciding, own_high}
 use Rattle.one_holder.specs.PassingLaws.{passes_lock_lem}
 use Rattle.one_holder.specs.Gathering.{LocksOf, HeldTo, gathered_key}
 use Rattle.rule.specs.Granting.{passes_below, passes, wakes, named_key_of, conflicts, reason_of}
-use Rattle.rule.specs.Parts.{waits_state}
 use Rattle.rule.specs.WakeLaws.{not_counting, all_stopped, IdleTo, NextWaiting, found_next}
 
 -- ---- the named key
@@ -98,118 +94,108 @@ let_more own list holder count j done L l b = record {
   above = λ n. omega (arith, L.above n, ltb-true j (own (at list (done + 1)) / 65536) b, least_more done no_key (λ k. own (at list k)));
 }
 
-module _ (counts : Counts) (may_read may_write : List ℕ) (holder : ℕ) (readers writers certified request : List ℕ)
-    (H : HolderFacts (held_state counts may_read may_write holder readers writers certified)) where
-  abbrev s : State
-  s = waits_state counts may_read may_write readers writers certified request
-
-  abbrev t : State
-  t = held_state counts may_read may_write holder readers writers certified
-
+module _ (s : State) (H : HolderFacts s) where
   abbrev woken : ℕ → ℕ
   woken = wakes s
 
-  -- the key of the holder's lock on an object
+  -- the key of the s.holder's lock on an object
   abbrev own : ℕ → ℕ
-  own = holder_key_at (locks_state counts may_read may_write readers writers certified) holder
+  own = holder_key_at s s.holder
 
-  -- the most urgent holder's locks decide
-  passes_by : (j : ℕ) → j ≤ most_jobs → passes_below j (deciding_key t j) ≡ passes s j
-  unfolding lowest_key_by object_key others_key weight
-  passes_by j high = (deciding t H j high).same
+  -- the most urgent s.holder's locks decide
+  passes_by : (j : ℕ) → j ≤ most_jobs → passes_below j (deciding_key s j) ≡ passes s j
+  passes_by j high = (deciding s H j high).same
 
   -- where none up to n is woken and none behind it waits, none up to m is woken
-  passed_to : (n m : ℕ) → first_nonzero n woken ≡ 0 → IdleTo request n m → (i : ℕ) → 1 ≤ i → i ≤ m → woken i ≡ 0
+  passed_to : (n m : ℕ) → first_nonzero n woken ≡ 0 → IdleTo s.request n m → (i : ℕ) → 1 ≤ i → i ≤ m → woken i ≡ 0
   passed_to n m passed idle i a b = elim (dec_le i n) [
     | yes l ↦ first_nonzero_none n woken i passed a l
     | no l ↦ simp (idle i (omega arith) b)
   ]
 
-  pub none_left : (n : ℕ) → first_nonzero n woken ≡ 0 → IdleTo request n counts.jobs → 0 ≡ first_nonzero counts.jobs woken
-  none_left n passed idle = sym (all_zero_first counts.jobs woken (passed_to n counts.jobs passed idle))
+  pub none_left : (n : ℕ) → first_nonzero n woken ≡ 0 → IdleTo s.request n s.counts.jobs → 0 ≡ first_nonzero s.counts.jobs woken
+  none_left n passed idle = sym (all_zero_first s.counts.jobs woken (passed_to n s.counts.jobs passed idle))
 
   -- a rank that is not woken, since it meets a key that it does not pass
-  not_woken : (i key : ℕ) → i ≤ most_jobs → deciding_key t i ≡ key → passes_below i key ≡ false → woken i ≡ 0
+  not_woken : (i key : ℕ) → i ≤ most_jobs → deciding_key s i ≡ key → passes_below i key ≡ false → woken i ≡ 0
   not_woken i key high e b = go (is_waiting s i) (passes s i) (sym (passes_by i high) ∙ ap (passes_below i) e ∙ b)
     where
       go : (a b : Bool) → b ≡ false → (if a && b then i else 0) ≡ 0
       go true b e = simp e
       go false b e = refl
 
-  -- where nobody up to the most urgent holder waits, its locks stop whoever does
-  pub none_above : counts.jobs ≤ most_jobs → (w : ℕ) → NextWaiting request 0 counts.jobs w → holder ≢ 0 → holder < w → 0 ≡ first_nonzero counts.jobs woken
-  none_above few w next some behind = sym (all_zero_first counts.jobs woken (λ i a b. each i a b (dec_lt i w)))
+  -- where nobody up to the most urgent s.holder waits, its locks stop whoever does
+  pub none_above : s.counts.jobs ≤ most_jobs → (w : ℕ) → NextWaiting s.request 0 s.counts.jobs w → s.holder ≢ 0 → s.holder < w → 0 ≡ first_nonzero s.counts.jobs woken
+  none_above few w next some behind = sym (all_zero_first s.counts.jobs woken (λ i a b. each i a b (dec_lt i w)))
     where
-      first : (0 < w) × (w ≤ counts.jobs) × (at request w ≢ 0) × IdleTo request 0 (w - 1)
-      first = found_next request 0 counts.jobs w next (λ e. omega arith)
+      first : (0 < w) × (w ≤ s.counts.jobs) × (at s.request w ≢ 0) × IdleTo s.request 0 (w - 1)
+      first = found_next s.request 0 s.counts.jobs w next (λ e. omega arith)
 
-      each : (i : ℕ) → 1 ≤ i → i ≤ counts.jobs → Dec (i < w) → woken i ≡ 0
+      each : (i : ℕ) → 1 ≤ i → i ≤ s.counts.jobs → Dec (i < w) → woken i ≡ 0
       each i a b (yes l) = simp (first.3 i (omega arith) (omega arith))
       each i a b (no l) =
-          not_woken i (holder_key t holder) (omega arith) (against_other holder (holder_key t holder) i (λ e. omega arith))
-          (le-ltb i (holder_key t holder / 65536) (omega (arith, own_high t H some, carried_small t H)))
+          not_woken i (holder_key s s.holder) (omega arith) (against_other s.holder (holder_key s s.holder) i (λ e. omega arith))
+          (le-ltb i (holder_key s s.holder / 65536) (omega (arith, own_high s H some, carried_small s H)))
 
-  module _ (list : List ℕ) (count : ℕ) (G : LocksOf readers writers holder counts.objects list count) where
+  module _ (list : List ℕ) (count : ℕ) (G : LocksOf s.readers s.writers s.holder s.counts.objects list count) where
     -- the lowest over the gathered objects
-    gathered : least count no_key (λ k. own (at list k)) ≡ holder_key t holder
-    unfolding holder_key weight
-    gathered = gathered_key (locks_state counts may_read may_write readers writers certified) holder list count G
+    gathered : least count no_key (λ k. own (at list k)) ≡ holder_key s s.holder
+    gathered = gathered_key s s.holder list count G
 
     -- whether j is more urgent than a gathered lock is whether it passes its key
-    pub passes_gathered : (j k : ℕ) → j ≤ counts.jobs → counts.jobs ≤ most_jobs → 1 ≤ k → k ≤ count
-        → HeldTo readers writers holder list count
-        → passes_below j (own (at list k)) ≡ passes_lock counts.version may_read may_write writers certified (at list k) holder j
-    unfolding weight
-    passes_gathered j k high few a b held = sym (passes_lock_lem t H j high few holder (at list k) (held k a b))
+    pub passes_gathered : (j k : ℕ) → j ≤ s.counts.jobs → s.counts.jobs ≤ most_jobs → 1 ≤ k → k ≤ count
+        → HeldTo s.readers s.writers s.holder list count
+        → passes_below j (own (at list k)) ≡ passes_lock s.counts.version s.may_read s.may_write s.writers s.certified (at list k) s.holder j
+    passes_gathered j k high few a b held = sym (passes_lock_lem s H j high few s.holder (at list k) (held k a b))
 
-    -- a lock that stops j stops whoever is less urgent and not the holder
-    stopped : (j i k : ℕ) → j ≤ i → i ≤ most_jobs → holder ≢ i → 1 ≤ k → k ≤ count → passes_below j (own (at list k)) ≡ false → woken i ≡ 0
+    -- a lock that stops j stops whoever is less urgent and not the s.holder
+    stopped : (j i k : ℕ) → j ≤ i → i ≤ most_jobs → s.holder ≢ i → 1 ≤ k → k ≤ count → passes_below j (own (at list k)) ≡ false → woken i ≡ 0
     stopped j i k l high d p h b =
-        not_woken i (holder_key t holder) high (against_other holder (holder_key t holder) i d)
-        (le-ltb i (holder_key t holder / 65536)
+        not_woken i (holder_key s s.holder) high (against_other s.holder (holder_key s s.holder) i d)
+        (le-ltb i (holder_key s s.holder / 65536)
         (omega (arith, ltb-false j (own (at list k) / 65536) b, least-le count no_key (λ k. own (at list k)) k p h, gathered)))
 
-    let_by : (j : ℕ) → j ≤ most_jobs → request_of s j ≢ 0 → LetBy own list holder count j count → woken j ≡ j
+    let_by : (j : ℕ) → j ≤ most_jobs → request_of s j ≢ 0 → LetBy own list s.holder count j count → woken j ≡ j
     let_by j high w L =
-        let pass : passes s j ≡ true = sym (passes_by j high) ∙ decided (eqb holder j) refl in
+        let pass : passes s j ≡ true = sym (passes_by j high) ∙ decided (eqb s.holder j) refl in
         let waits : is_waiting s j ≡ true = ap not (ne_eqb (request_of s j) 0 w) in
         simp (waits, pass)
       where
-        decided : (b : Bool) → eqb holder j ≡ b → passes_below j (if b then no_key else holder_key t holder) ≡ true
+        decided : (b : Bool) → eqb s.holder j ≡ b → passes_below j (if b then no_key else holder_key s s.holder) ≡ true
         decided true e = lt-ltb j (no_key / 65536) (omega arith)
-        decided false e = lt-ltb j (holder_key t holder / 65536) (omega (arith, L.above (eqb-false holder j e), gathered))
+        decided false e = lt-ltb j (holder_key s s.holder / 65536) (omega (arith, L.above (eqb-false s.holder j e), gathered))
 
     -- w is the first waiting rank behind n, and none up to n is woken
-    module _ (n w : ℕ) (few : counts.jobs ≤ most_jobs) (passed : first_nonzero n woken ≡ 0)
-        (next : (n < w) × (w ≤ counts.jobs) × (at request w ≢ 0) × IdleTo request n (w - 1)) where
+    module _ (n w : ℕ) (few : s.counts.jobs ≤ most_jobs) (passed : first_nonzero n woken ≡ 0)
+        (next : (n < w) × (w ≤ s.counts.jobs) × (at s.request w ≢ 0) × IdleTo s.request n (w - 1)) where
       before : (i : ℕ) → 1 ≤ i → i < w → woken i ≡ 0
       before i a b = passed_to n (w - 1) passed next.3 i a (omega arith)
 
       -- a lock that stops it stops all up to the rank that is tried next
-      pub pass_stopped : (k : ℕ) → holder ≢ w → 1 ≤ k → k ≤ count → passes_below w (own (at list k)) ≡ false → first_nonzero (all_stopped holder w counts.jobs) woken ≡ 0
-      pass_stopped k d p h b = all_zero_first (all_stopped holder w counts.jobs) woken (λ i l r. each i l r (dec_lt i w))
+      pub pass_stopped : (k : ℕ) → s.holder ≢ w → 1 ≤ k → k ≤ count → passes_below w (own (at list k)) ≡ false → first_nonzero (all_stopped s.holder w s.counts.jobs) woken ≡ 0
+      pass_stopped k d p h b = all_zero_first (all_stopped s.holder w s.counts.jobs) woken (λ i l r. each i l r (dec_lt i w))
         where
-          last : (w ≤ all_stopped holder w counts.jobs) × (all_stopped holder w counts.jobs ≤ counts.jobs)
-              × ((i : ℕ) → w ≤ i → i ≤ all_stopped holder w counts.jobs → holder ≢ w → holder ≢ i)
-          last = all_stopped_lem holder w counts.jobs next.1
+          last : (w ≤ all_stopped s.holder w s.counts.jobs) × (all_stopped s.holder w s.counts.jobs ≤ s.counts.jobs)
+              × ((i : ℕ) → w ≤ i → i ≤ all_stopped s.holder w s.counts.jobs → s.holder ≢ w → s.holder ≢ i)
+          last = all_stopped_lem s.holder w s.counts.jobs next.1
 
-          each : (i : ℕ) → 1 ≤ i → i ≤ all_stopped holder w counts.jobs → Dec (i < w) → woken i ≡ 0
+          each : (i : ℕ) → 1 ≤ i → i ≤ all_stopped s.holder w s.counts.jobs → Dec (i < w) → woken i ≡ 0
           each i l r (yes a) = before i l a
           each i l r (no a) = stopped w i k (omega arith) (omega (arith, last.1)) (last.2 i (omega arith) r d) p h b
 
-      pub found : LetBy own list holder count w count → w ≡ first_nonzero counts.jobs woken
+      pub found : LetBy own list s.holder count w count → w ≡ first_nonzero s.counts.jobs woken
       found L = go w refl
         where
           is : woken w ≡ w
           is = let_by w (omega (arith, next.1)) next.2 L
 
-          go : (v : ℕ) → w ≡ v → w ≡ first_nonzero counts.jobs woken
+          go : (v : ℕ) → w ≡ v → w ≡ first_nonzero s.counts.jobs woken
           go zero e = absurd (omega (arith, next.0))
           go (suc v) e =
               let none = all_zero_first v woken (λ i a b. before i a (omega arith)) in
-              sym (first_nonzero_at v counts.jobs woken none (λ z. omega (arith, is, ap woken e, z)) (omega (arith, next.1)) ∙ ap woken (sym e) ∙ is)
+              sym (first_nonzero_at v s.counts.jobs woken none (λ z. omega (arith, is, ap woken e, z)) (omega (arith, next.1)) ∙ ap woken (sym e) ∙ is)
 
   -- where nobody waits, nobody is woken
-  pub none_woken : counts.jobs ≤ most_jobs → every most_jobs (λ r. eqb (at request r) 0) ≡ true → 0 ≡ first_nonzero counts.jobs woken
+  pub none_woken : s.counts.jobs ≤ most_jobs → every most_jobs (λ r. eqb (at s.request r) 0) ≡ true → 0 ≡ first_nonzero s.counts.jobs woken
   none_woken few e =
-      sym (all_zero_first counts.jobs woken (λ i a b. simp (every-at most_jobs (λ r. eqb (at request r) 0) i e a (omega arith))))
+      sym (all_zero_first s.counts.jobs woken (λ i a b. simp (every-at most_jobs (λ r. eqb (at s.request r) 0) i e a (omega arith))))

@@ -1,17 +1,16 @@
 // The rule of 1PI-RWPCP: whether a request passes, whom it names and why, the wake search.
-// A function sees the parts of a state that it asks about: numbers by value, a rank's or an object's array by reference.
 #![tactic(auto)]
 
 ghost use Rattle.std.specs.Prelude.{◌≡◌, ◌⊎◌, ◌+◌, ◌≤◌, ◌<◌};
 ghost use Rattle.state.specs.State.{most_jobs};
-ghost use Rattle.state.specs.Holders.{HolderFacts, held_state};
+ghost use Rattle.state.specs.Lent.{state_in};
+ghost use Rattle.state.specs.Holders.{HolderFacts};
 ghost use Rattle.rule.specs.Granting as G;
-ghost use Rattle.rule.specs.Parts.{waits_state};
 ghost use Rattle.rule.specs.WakeLaws.{not_counting, all_stopped, IdleTo, NextWaiting};
 
 use one_holder::{locked_by, passes_lock};
 use ranks::RankSet;
-use state::{Counts, JobRequests, ObjectMarks, Sets, none_waits};
+use state::{JobRequests, Parts, none_waits};
 use weights::NO_KEY;
 
 // Whether a request of the rank passes the lock with the key.
@@ -115,42 +114,22 @@ fn next_waiting(request: &JobRequests, rank: u8, jobs: u8) -> u8
 }
 
 // The most urgent waiting rank whose request passes, and 0 where none does. The locks of the most urgent holder decide; which objects they are on is gathered once.
-fn search<'a>(
-    counts: Counts,
-    may_read: Sets<'a>,
-    may_write: Sets<'a>,
-    holder: u8,
-    readers: Sets<'a>,
-    writers: Sets<'a>,
-    certified: &'a ObjectMarks,
-    request: &'a JobRequests,
-) -> u8
-    requires { (counts.jobs ≤ most_jobs) × HolderFacts (held_state counts may_read.now may_write.now holder readers.now writers.now certified.now) }
-    ensures { result ≡ G.wakeable (waits_state counts may_read.entry.now may_write.entry.now readers.entry.now writers.entry.now certified.now request.now) }
+fn search(parts: &Parts) -> u8
+    requires { (parts.now.counts.jobs ≤ most_jobs) × HolderFacts (state_in parts.now) }
+    ensures { result ≡ G.wakeable (state_in parts.now) }
 {
-    let locked = locked_by(counts, readers, writers, holder);
+    let holder = parts.holder;
+    let locked = locked_by(parts, holder);
     let mut rank: u8 = 0;
     'search: loop {
-        rank = next_waiting(request, rank, counts.jobs);
+        rank = next_waiting(parts.request, rank, parts.counts.jobs);
         if rank == 0 {
             break 'search 0;
         }
-        let mut done = not_counting(holder, locked.count, rank);
-        while done < locked.count {
-            let object = locked.objects[done];
-            done += 1;
-            let passed = passes_lock(
-                counts.version,
-                may_read,
-                may_write,
-                writers,
-                certified,
-                object,
-                holder,
-                rank,
-            );
+        for done in not_counting(holder, locked.count, rank)..locked.count {
+            let passed = passes_lock(parts, locked.objects[done], holder, rank);
             if !passed {
-                rank = all_stopped(holder, rank, counts.jobs);
+                rank = all_stopped(holder, rank, parts.counts.jobs);
                 continue 'search;
             }
         }
@@ -159,27 +138,16 @@ fn search<'a>(
 }
 
 // The same, without a look at the locks where nobody waits, or nobody who is more urgent than the most urgent holder, or it: its locks stop all others.
-pub fn wakeable<'a>(
-    counts: Counts,
-    may_read: Sets<'a>,
-    may_write: Sets<'a>,
-    holder: u8,
-    readers: Sets<'a>,
-    writers: Sets<'a>,
-    certified: &'a ObjectMarks,
-    request: &'a JobRequests,
-) -> u8
-    requires { (counts.jobs ≤ most_jobs) × HolderFacts (held_state counts may_read.now may_write.now holder readers.now writers.now certified.now) }
-    ensures { result ≡ G.wakeable (waits_state counts may_read.entry.now may_write.entry.now readers.entry.now writers.entry.now certified.now request.now) }
+pub fn wakeable(parts: &Parts) -> u8
+    requires { (parts.now.counts.jobs ≤ most_jobs) × HolderFacts (state_in parts.now) }
+    ensures { result ≡ G.wakeable (state_in parts.now) }
 {
-    if none_waits(request, 0, 64) {
+    if none_waits(parts.request, 0, 64) {
         return 0;
     }
-    let first = next_waiting(request, 0, counts.jobs);
-    if (holder != 0) & (holder < first) {
+    let first = next_waiting(parts.request, 0, parts.counts.jobs);
+    if (parts.holder != 0) & (parts.holder < first) {
         return 0;
     }
-    search(
-        counts, may_read, may_write, holder, readers, writers, certified, request,
-    )
+    search(parts)
 }

@@ -8,10 +8,9 @@ use native.Mathlib.Omega.{arith}
 use Rattle.basics.specs.Arrays.{at_next}
 use Rattle.basics.specs.Loops.{first_nonzero}
 use Rattle.state.specs.Holders.{carried_small}
-use Rattle.weights.specs.Parts.{locks_state}
 use Rattle.one_holder.specs.OneHolder.{holder_key_at, passes_lock}
 use Rattle.rule.specs.Granting.{wakes, wakeable}
-use Rattle.rule.specs.Parts.{waits_state}
+use Rattle.state.specs.Lent.{state_in}
 use Rattle.rule.specs.WakeLaws.{all_stopped, found_next, found_none}
 use Rattle.rule.proofs.Searching.{LetBy, passes_gathered, all_stopped_lem, let_none, let_other, let_more, pass_stopped, found, none_left}
 use Rattle.rule.proofs.search.Goals as goal
@@ -25,61 +24,61 @@ search-init c = (omega arith, refl)
 
 pub loop-done-init : goal.loop-done-init
 loop-done-init c =
-    let a = c.args in
-    let next = (found_next a.request.now c.search.rank a.counts.jobs c.next_waiting-rank.result c.next_waiting-rank.ensures c.if-rank-eq0.false) in (
+    let s = state_in c.args.parts.now in
+    let next = (found_next s.request c.search.rank s.counts.jobs c.next_waiting-rank.result c.next_waiting-rank.ensures c.if-rank-eq0.false) in (
       refl,
-      subst (LetBy (holder_key_at (locks_state a.counts a.may_read.now a.may_write.now a.readers.now a.writers.now a.certified.now) a.holder) c.locked_by-locked.result.objects a.holder c.locked_by-locked.result.count c.next_waiting-rank.result) (sym c.not_counting-done.ensures)
-          (let_none (holder_key_at (locks_state a.counts a.may_read.now a.may_write.now a.readers.now a.writers.now a.certified.now) a.holder) c.locked_by-locked.result.objects a.holder c.locked_by-locked.result.count c.next_waiting-rank.result (omega (arith, next.1, c.requires.0))),
+      subst (LetBy (holder_key_at s s.holder) c.locked_by-locked.result.objects s.holder c.locked_by-locked.result.count c.next_waiting-rank.result) (sym c.not_counting-done.ensures)
+          (let_none (holder_key_at s s.holder) c.locked_by-locked.result.objects s.holder c.locked_by-locked.result.count c.next_waiting-rank.result (omega (arith, next.1, c.requires.0))),
     )
 
 pub passes_lock-passed-requires : goal.passes_lock-passed-requires
 passes_lock-passed-requires c =
     let w = c.locked_by-locked.ensures.locks.locks.inside (c.loop-done.done + 1) (omega arith) (omega (arith, c.loop-done-test.true)) in
     let H = c.requires.1 in
-    let next = (found_next c.args.request.now c.search.rank c.args.counts.jobs c.next_waiting-rank.result c.next_waiting-rank.ensures c.if-rank-eq0.false) in
+    let next = (found_next (state_in c.args.parts.now).request c.search.rank (state_in c.args.parts.now).counts.jobs c.next_waiting-rank.result c.next_waiting-rank.ensures c.if-rank-eq0.false) in
     let here = at_next c.locked_by-locked.result.objects c.loop-done.done in
     (omega (arith, here, w.0), omega (arith, here, w.1, H.few), c.locked_by-locked.ensures.locks.rank (omega (arith, c.loop-done-test.true)), carried_small _ H, omega (arith, c.loop-done.invariant.0, next.1, c.requires.0))
 
 pub search-preserved : goal.search-preserved
 search-preserved c =
-    let a = c.args in
+    let s = state_in c.args.parts.now in
     let list = c.locked_by-locked.result.objects in
     let w = c.next_waiting-rank.result in
-    let next = (found_next a.request.now c.search.rank a.counts.jobs c.next_waiting-rank.result c.next_waiting-rank.ensures c.if-rank-eq0.false) in
+    let next = (found_next s.request c.search.rank s.counts.jobs c.next_waiting-rank.result c.next_waiting-rank.ensures c.if-rank-eq0.false) in
     let stops =
-    passes_gathered a.counts a.may_read.now a.may_write.now a.holder a.readers.now a.writers.now a.certified.now a.request.now c.requires.1 list c.locked_by-locked.result.count c.locked_by-locked.ensures.locks w (c.loop-done.done + 1) next.1 c.requires.0 (omega arith) (omega (arith, c.loop-done-test.true)) c.locked_by-locked.ensures.held
-    ∙ ap₂ (λ (o j : ℕ). passes_lock a.counts.version a.may_read.now a.may_write.now a.writers.now a.certified.now o a.holder j) (at_next list c.loop-done.done) (sym c.loop-done.invariant.0)
+    passes_gathered s c.requires.1 list c.locked_by-locked.result.count c.locked_by-locked.ensures.locks w (c.loop-done.done + 1) next.1 c.requires.0 (omega arith) (omega (arith, c.loop-done-test.true)) c.locked_by-locked.ensures.held
+    ∙ ap₂ (λ (o j : ℕ). passes_lock s.counts.version s.may_read s.may_write s.writers s.certified o s.holder j) (at_next list c.loop-done.done) (sym c.loop-done.invariant.0)
     ∙ sym c.passes_lock-passed.ensures ∙ c.if-not-passed.true in
-    let last = c.all_stopped-rank.ensures ∙ ap (λ (r : ℕ). all_stopped a.holder r a.counts.jobs) c.loop-done.invariant.0 in (
-      omega (arith, last, all_stopped_lem a.holder w a.counts.jobs next.1),
-      ap (λ (n : ℕ). first_nonzero n (wakes (waits_state a.counts a.may_read.now a.may_write.now a.readers.now a.writers.now a.certified.now a.request.now))) last
-          ∙ pass_stopped a.counts a.may_read.now a.may_write.now a.holder a.readers.now a.writers.now a.certified.now a.request.now c.requires.1 c.locked_by-locked.result.objects c.locked_by-locked.result.count c.locked_by-locked.ensures.locks c.search.rank w c.requires.0 c.search.invariant.1 next (c.loop-done.done + 1) (let_other c.loop-done.invariant.1 c.loop-done-test.true) (omega arith) (omega (arith, c.loop-done-test.true)) stops,
+    let last = c.all_stopped-rank.ensures ∙ ap (λ (r : ℕ). all_stopped s.holder r s.counts.jobs) c.loop-done.invariant.0 in (
+      omega (arith, last, all_stopped_lem s.holder w s.counts.jobs next.1),
+      ap (λ (n : ℕ). first_nonzero n (wakes s)) last
+          ∙ pass_stopped s c.requires.1 c.locked_by-locked.result.objects c.locked_by-locked.result.count c.locked_by-locked.ensures.locks c.search.rank w c.requires.0 c.search.invariant.1 next (c.loop-done.done + 1) (let_other c.loop-done.invariant.1 c.loop-done-test.true) (omega arith) (omega (arith, c.loop-done-test.true)) stops,
     )
 
 pub loop-done-preserved : goal.loop-done-preserved
 loop-done-preserved c =
-    let a = c.args in
+    let s = state_in c.args.parts.now in
     let list = c.locked_by-locked.result.objects in
     let w = c.next_waiting-rank.result in
-    let next = (found_next a.request.now c.search.rank a.counts.jobs c.next_waiting-rank.result c.next_waiting-rank.ensures c.if-rank-eq0.false) in
+    let next = (found_next s.request c.search.rank s.counts.jobs c.next_waiting-rank.result c.next_waiting-rank.ensures c.if-rank-eq0.false) in
     let passed =
-    passes_gathered a.counts a.may_read.now a.may_write.now a.holder a.readers.now a.writers.now a.certified.now a.request.now c.requires.1 list c.locked_by-locked.result.count c.locked_by-locked.ensures.locks w (c.loop-done.done + 1) next.1 c.requires.0 (omega arith) (omega (arith, c.loop-done-test.true)) c.locked_by-locked.ensures.held
-    ∙ ap₂ (λ (o j : ℕ). passes_lock a.counts.version a.may_read.now a.may_write.now a.writers.now a.certified.now o a.holder j) (at_next list c.loop-done.done) (sym c.loop-done.invariant.0)
+    passes_gathered s c.requires.1 list c.locked_by-locked.result.count c.locked_by-locked.ensures.locks w (c.loop-done.done + 1) next.1 c.requires.0 (omega arith) (omega (arith, c.loop-done-test.true)) c.locked_by-locked.ensures.held
+    ∙ ap₂ (λ (o j : ℕ). passes_lock s.counts.version s.may_read s.may_write s.writers s.certified o s.holder j) (at_next list c.loop-done.done) (sym c.loop-done.invariant.0)
     ∙ sym c.passes_lock-passed.ensures ∙ c.if-not-passed.false in
-    (c.loop-done.invariant.0, let_more (holder_key_at (locks_state a.counts a.may_read.now a.may_write.now a.readers.now a.writers.now a.certified.now) a.holder) list a.holder c.locked_by-locked.result.count w c.loop-done.done c.loop-done.invariant.1 c.loop-done-test.true passed)
+    (c.loop-done.invariant.0, let_more (holder_key_at s s.holder) list s.holder c.locked_by-locked.result.count w c.loop-done.done c.loop-done.invariant.1 c.loop-done-test.true passed)
 
 pub returns-then-rank-eq0 : goal.returns-then-rank-eq0
 unfolding wakeable
 returns-then-rank-eq0 c =
-    let a = c.args in
-    none_left a.counts a.may_read.now a.may_write.now a.holder a.readers.now a.writers.now a.certified.now a.request.now c.requires.1 c.search.rank c.search.invariant.1 (found_none a.request.now c.search.rank a.counts.jobs c.next_waiting-rank.result c.next_waiting-rank.ensures c.if-rank-eq0.true)
+    let s = state_in c.args.parts.now in
+    none_left s c.requires.1 c.search.rank c.search.invariant.1 (found_none s.request c.search.rank s.counts.jobs c.next_waiting-rank.result c.next_waiting-rank.ensures c.if-rank-eq0.true)
 
 pub returns-after-loop-done : goal.returns-after-loop-done
 unfolding wakeable
 returns-after-loop-done c =
-    let a = c.args in
+    let s = state_in c.args.parts.now in
     let w = c.next_waiting-rank.result in
-    let next = (found_next a.request.now c.search.rank a.counts.jobs c.next_waiting-rank.result c.next_waiting-rank.ensures c.if-rank-eq0.false) in
+    let next = (found_next s.request c.search.rank s.counts.jobs c.next_waiting-rank.result c.next_waiting-rank.ensures c.if-rank-eq0.false) in
     let all : c.loop-done.done ≡ c.locked_by-locked.result.count = omega (arith, c.loop-done.invariant.1.few, c.loop-done-test.false) in
-    c.loop-done.invariant.0 ∙ found a.counts a.may_read.now a.may_write.now a.holder a.readers.now a.writers.now a.certified.now a.request.now c.requires.1 c.locked_by-locked.result.objects c.locked_by-locked.result.count c.locked_by-locked.ensures.locks c.search.rank w c.requires.0 c.search.invariant.1 next
-    (subst (LetBy (holder_key_at (locks_state a.counts a.may_read.now a.may_write.now a.readers.now a.writers.now a.certified.now) a.holder) c.locked_by-locked.result.objects a.holder c.locked_by-locked.result.count w) all c.loop-done.invariant.1)
+    c.loop-done.invariant.0 ∙ found s c.requires.1 c.locked_by-locked.result.objects c.locked_by-locked.result.count c.locked_by-locked.ensures.locks c.search.rank w c.requires.0 c.search.invariant.1 next
+    (subst (LetBy (holder_key_at s s.holder) c.locked_by-locked.result.objects s.holder c.locked_by-locked.result.count w) all c.loop-done.invariant.1)

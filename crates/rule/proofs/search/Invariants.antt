@@ -5,23 +5,19 @@
 use mathlib.Core.Path.{◌≡◌}
 use Prim.Native.Nat.{◌-◌, ◌≤◌}
 use Rattle.basics.specs.Loops.{first_nonzero}
-use Rattle.weights.specs.Parts.{locks_state}
 use Rattle.one_holder.specs.OneHolder.{holder_key_at}
 use Rattle.rule.specs.Granting.{wakes}
-use Rattle.rule.specs.Parts.{waits_state}
+use Rattle.state.specs.Lent.{state_in}
 use Rattle.rule.proofs.Searching.{LetBy}
 use Rattle.rule.proofs.search.Given as goal
 
 abbrev pub invariant-loop-done : goal.invariant-loop-done
 invariant-loop-done l =
-    (l.rank ≡ l.initial.rank) × LetBy (holder_key_at (locks_state l.counts l.may_read l.may_write l.readers l.writers l.certified) l.holder) l.locked.objects l.holder l.locked.count l.initial.rank l.done
-
-abbrev pub decreases-loop-done : goal.decreases-loop-done
-decreases-loop-done l = l.locked.count - l.done
+    (l.rank ≡ l.initial.rank) × LetBy (holder_key_at (state_in l.parts) l.holder) l.locked.objects l.holder l.locked.count l.initial.rank l.done
 
 abbrev pub invariant-search : goal.invariant-search
 invariant-search l =
-    (l.rank ≤ l.counts.jobs) × (first_nonzero l.rank (wakes (waits_state l.counts l.may_read l.may_write l.readers l.writers l.certified l.request)) ≡ 0)
+    (l.rank ≤ l.parts.counts.jobs) × (first_nonzero l.rank (wakes (state_in l.parts)) ≡ 0)
 
 abbrev pub decreases-search : goal.decreases-search
-decreases-search l = l.counts.jobs - l.rank
+decreases-search l = l.parts.counts.jobs - l.rank
