@@ -2,12 +2,9 @@
 -- Assumes nothing.
 use mathlib.Core.Path.{◌∙◌}
 use native.Mathlib.Omega.{arith}
+use Rattle.state.specs.Lent.{state_in}
 use Rattle.inheritance.specs.Inheriting.{inherited_by_lem}
-use Rattle.rule.specs.Parts.{waits_state}
 use Rattle.inheritance.proofs.inherited_rank.Goals as goal
 
 pub returns : goal.returns
-returns c =
-    let a = c.args in
-    c.inherited_by.ensures
-    ∙ inherited_by_lem c.named_locks-named.result (waits_state a.counts a.may_read.now a.may_write.now a.readers.now a.writers.now a.certified.now a.request.now) c.named_locks-named.ensures a.rank (omega arith)
+returns c = c.inherited_by.ensures ∙ inherited_by_lem c.named_locks.result (state_in c.args.parts.now) c.named_locks.ensures c.args.rank (omega arith)

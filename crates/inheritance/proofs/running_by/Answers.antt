@@ -1,5 +1,4 @@
--- `inheritance::running_by` meets its contract. The loop's invariant: `lowest` is the lowest key of the ready ranks passed. A turn takes one rank more, and the
--- number of ranks left falls.
+-- `inheritance::running_by` meets its contract. The loop's invariant: `lowest` is the lowest key of the ready ranks passed. A turn takes one rank more.
 -- Assumes nothing.
 use mathlib.Core.Path.{◌≡◌, refl, sym, ap, ap₂, ◌∙◌}
 use mathlib.Core.Bool.{Bool}
@@ -12,28 +11,28 @@ use Rattle.inheritance.specs.Inheriting.{ready_by, ready_key_by, running_by}
 use borrow.Author.Rules.{rules}
 use Rattle.inheritance.proofs.running_by.Goals as goal
 
-pub loop-rank-init : goal.loop-rank-init
+pub loop-before-init : goal.loop-before-init
 unfolding least
-loop-rank-init c = (search rules, refl)
+loop-before-init c = (search rules, refl)
 
-pub loop-rank-preserved : goal.loop-rank-preserved
-loop-rank-preserved c =
+pub loop-before-preserved : goal.loop-before-preserved
+loop-before-preserved c =
     let a = c.args in
-    let rank = c.loop-rank.rank in
-    let ready : c.is_ready-ready.result ≡ ready_by (at a.processor_of.now (rank + 1)) a.processor a.awake (at a.request.now (rank + 1)) (rank + 1) =
+    let rank = c.loop-before.before in
+    let ready : c.is_ready-ready.result ≡ ready_by (at a.parts.now.processor_of.now (rank + 1)) a.processor a.awake (at a.parts.now.request.now (rank + 1)) (rank + 1) =
     c.is_ready-ready.ensures
     ∙ ap₂ (λ (own request : ℕ). ready_by own a.processor a.awake request (rank + 1))
-    (sym (at_next a.processor_of.now rank)) (sym (at_next a.request.now rank))
+    (sym (at_next a.parts.now.processor_of.now rank)) (sym (at_next a.parts.now.request.now rank))
     in (
       search rules,
-      c.lower-lowest.ensures
-          ∙ ap₂ min c.loop-rank.invariant.1 (c.ready_key.ensures ∙ ap (λ (b : Bool). ready_key_by a.jobs a.named.now b (rank + 1)) ready)
-          ∙ sym (least_more rank no_key (λ r. ready_key_by a.jobs a.named.now (ready_by (at a.processor_of.now r) a.processor a.awake (at a.request.now r) r) r)),
+      c.min-lowest.ensures
+          ∙ ap₂ min c.loop-before.invariant.1 (c.ready_key.ensures ∙ ap (λ (b : Bool). ready_key_by a.parts.now.counts.jobs a.named.now b (rank + 1)) ready)
+          ∙ sym (least_more rank no_key (λ r. ready_key_by a.parts.now.counts.jobs a.named.now (ready_by (at a.parts.now.processor_of.now r) a.processor a.awake (at a.parts.now.request.now r) r) r)),
     )
 
 pub returns : goal.returns
 unfolding running_by
 returns c =
     let a = c.args in
-    let all : c.loop-rank.rank ≡ a.jobs = omega arith in
-    ap (λ (n : ℕ). n % 256) (c.loop-rank.invariant.1 ∙ ap (λ (n : ℕ). least n no_key (λ r. ready_key_by a.jobs a.named.now (ready_by (at a.processor_of.now r) a.processor a.awake (at a.request.now r) r) r)) all)
+    let all : c.loop-before.before ≡ a.parts.now.counts.jobs = omega arith in
+    ap (λ (n : ℕ). n % 256) (c.loop-before.invariant.1 ∙ ap (λ (n : ℕ). least n no_key (λ r. ready_key_by a.parts.now.counts.jobs a.named.now (ready_by (at a.parts.now.processor_of.now r) a.processor a.awake (at a.parts.now.request.now r) r) r)) all)
