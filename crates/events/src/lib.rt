@@ -1,10 +1,12 @@
 // Events in a well-formed state, on its parts, in place: one small function for each rule, with its refusals. And an answer packed into a number.
 #![tactic(auto)]
 
-ghost use Rattle.std.specs.Prelude.{◌≡◌, List, ℕ, ◌≤◌};
-ghost use Rattle.state.specs.State.{most_jobs, most_objects, certify, state_of};
-ghost use Rattle.state.specs.Holders.{HolderFacts, held_state};
+ghost use Rattle.std.specs.Prelude.{◌≡◌, ◌≤◌};
+ghost use Rattle.state.specs.State.{most_jobs, most_objects, certify};
+ghost use Rattle.state.specs.Lent.{state_in_mut, SamePlaces};
+ghost use Rattle.state.specs.Holders.{HolderFacts};
 ghost use Rattle.refusals.specs.Accepting.{RequestsFit, InRange};
+ghost use Rattle.events.specs.Answers.{answer_of};
 ghost use Rattle.events.specs.Events as E;
 
 mod packing;
@@ -15,12 +17,11 @@ use changes::{
 };
 use one_holder::deciding_key;
 pub use packing::pack;
-use ranks::RankSet;
 use refusals::{
     certify_refusal, finish_refusal, lock_refusal, set_of, sleep_refusal, start_refusal,
     unlock_refusal,
 };
-use state::{Counts, JobRequests, ObjectMarks, Sets, SetsMut, State};
+use state::{PartsMut, Refusal, State, shares_with_none};
 
 // An event's answer: granted; waits for the lock of a holder on an object, with the reason; done, with the woken rank or 0; refused, with its number.
 #[derive(Clone, Copy)]
@@ -39,360 +40,163 @@ pub struct Outcome {
 }
 
 // Kind 1: the job becomes active.
-fn start(counts: Counts, active: &mut RankSet, rank: u8, object: u8) -> Answer
-    requires { counts.jobs ≤ most_jobs }
-    ensures { (u z h : ℕ) (ps mr mw rs ws cs q : List ℕ) →
-        E.outcome result (state_of counts ps mr mw active.new u z h rs ws cs q)
-        ≡ E.perform (state_of counts ps mr mw active.old u z h rs ws cs q) 1 rank object }
+fn start(state: &mut PartsMut, rank: u8, object: u8) -> Result<Answer, Refusal>
+    requires { state.old.counts.jobs ≤ most_jobs }
+    ensures next { E.outcome (answer_of result) (state_in_mut state.new) ≡ E.perform (state_in_mut state.old) 1 rank object }
+    ensures same { SamePlaces state.old state.new }
 {
-    let number = start_refusal(counts, *active, rank, object);
-    if number != 0 {
-        return Answer::Refused(number);
-    }
-    *active = ranks::with(*active, rank);
-    Answer::Done(0)
+    start_refusal(&state.read(), rank, object)?;
+    *state.active = ranks::with(*state.active, rank);
+    Ok(Answer::Done(0))
 }
 
 // A request that is not refused: the job gets the lock on the object in the mode, or waits for it.
-fn grant_or_wait<'a>(
-    counts: Counts,
-    may_read: Sets<'a>,
-    may_write: Sets<'a>,
-    holder: &mut u8,
-    readers: SetsMut,
-    writers: SetsMut,
-    certified: &mut ObjectMarks,
-    request: &mut JobRequests,
-    mode: u8,
-    rank: u8,
-    object: u8,
-) -> Answer
-    requires { (1 ≤ mode) × (mode ≤ certify) × (1 ≤ rank) × (rank ≤ most_jobs) × (1 ≤ object) × (object ≤ most_objects)
-        × HolderFacts (held_state counts may_read.now may_write.now holder.old readers.now writers.now certified.old) }
-    ensures { (a u z : ℕ) (ps : List ℕ) →
-        E.outcome result (state_of counts ps may_read.entry.now may_write.entry.now a u z holder.new readers.exit.now writers.exit.now certified.new request.new)
-        ≡ E.request (state_of counts ps may_read.entry.now may_write.entry.now a u z holder.old readers.entry.now writers.entry.now certified.old request.old) mode rank object }
+fn grant_or_wait(state: &mut PartsMut, mode: u8, rank: u8, object: u8) -> Answer
+    requires { (1 ≤ mode) × (mode ≤ certify) × (1 ≤ rank) × (rank ≤ most_jobs) × (1 ≤ object) × (object ≤ most_objects) × HolderFacts (state_in_mut state.old) }
+    ensures next { E.outcome result (state_in_mut state.new) ≡ E.request (state_in_mut state.old) mode rank object }
+    ensures same { SamePlaces state.old state.new }
 {
-    let key = deciding_key(
-        counts, may_read, may_write, *holder, readers, writers, certified, rank,
-    );
+    let parts = state.read();
+    let key = deciding_key(&parts, rank);
     if rule::passes(rank, key) {
-        grant(readers, writers, certified, request, mode, rank, object);
-        *holder = rank;
+        grant(state, mode, rank, object);
+        *state.holder = rank;
         return Answer::Granted;
     }
-    let other = weights::key_holder(key);
+    let holder = weights::key_holder(key);
     let named = weights::key_object(key);
     let reason = rule::reason(
-        counts.version,
+        parts.counts.version,
         mode,
         object,
-        other,
+        holder,
         named,
-        state::shares_with_none(counts.version, certified, named),
-        set_of(writers, named),
-        weights::ceiling(counts, set_of(may_write, named)),
+        shares_with_none(parts.counts.version, parts.certified, named),
+        set_of(parts.writers, named),
+        weights::ceiling(parts.counts, set_of(parts.may_write, named)),
     );
-    store_request(request, rank, (mode as u16) * 256 + (object as u16));
+    store_request(state.request, rank, (mode as u16) * 256 + (object as u16));
     Answer::Waits {
-        holder: other,
+        holder,
         object: named,
         reason,
     }
 }
 
 // Kinds 2 and 3: the job gets the lock, or waits for it.
-fn lock<'a>(
-    counts: Counts,
-    may_read: Sets<'a>,
-    may_write: Sets<'a>,
-    active: RankSet,
-    unlocked: RankSet,
-    sleeping: RankSet,
-    holder: &mut u8,
-    readers: SetsMut,
-    writers: SetsMut,
-    certified: &mut ObjectMarks,
-    request: &mut JobRequests,
-    kind: u8,
-    rank: u8,
-    object: u8,
-) -> Answer
-    requires { (counts.jobs ≤ most_jobs) × (2 ≤ kind) × (kind ≤ 3)
-        × HolderFacts (held_state counts may_read.now may_write.now holder.old readers.now writers.now certified.old) }
-    ensures { (ps : List ℕ) →
-        E.outcome result (state_of counts ps may_read.entry.now may_write.entry.now active unlocked sleeping holder.new readers.exit.now writers.exit.now certified.new request.new)
-        ≡ E.perform (state_of counts ps may_read.entry.now may_write.entry.now active unlocked sleeping holder.old readers.entry.now writers.entry.now certified.old request.old) kind rank object }
+fn lock(state: &mut PartsMut, kind: u8, rank: u8, object: u8) -> Result<Answer, Refusal>
+    requires { (state.old.counts.jobs ≤ most_jobs) × (2 ≤ kind) × (kind ≤ 3) × HolderFacts (state_in_mut state.old) }
+    ensures next { E.outcome (answer_of result) (state_in_mut state.new) ≡ E.perform (state_in_mut state.old) kind rank object }
+    ensures same { SamePlaces state.old state.new }
 {
-    let number = lock_refusal(
-        counts, may_read, may_write, active, unlocked, sleeping, readers, writers, request, kind,
-        rank, object,
-    );
-    if number != 0 {
-        return Answer::Refused(number);
-    }
-    let answer = grant_or_wait(
-        counts,
-        may_read,
-        may_write,
-        holder,
-        readers,
-        writers,
-        certified,
-        request,
-        kind - 1,
-        rank,
-        object,
-    );
-    answer
+    lock_refusal(&state.read(), kind, rank, object)?;
+    Ok(grant_or_wait(state, kind - 1, rank, object))
 }
 
 // Kind 7: the job's write lock becomes a certify lock, or the job waits for that and keeps its write lock.
-fn certify<'a>(
-    counts: Counts,
-    may_read: Sets<'a>,
-    may_write: Sets<'a>,
-    active: RankSet,
-    unlocked: RankSet,
-    sleeping: RankSet,
-    holder: &mut u8,
-    readers: SetsMut,
-    writers: SetsMut,
-    certified: &mut ObjectMarks,
-    request: &mut JobRequests,
-    rank: u8,
-    object: u8,
-) -> Answer
-    requires { (counts.jobs ≤ most_jobs)
-        × HolderFacts (held_state counts may_read.now may_write.now holder.old readers.now writers.now certified.old) }
-    ensures { (ps : List ℕ) →
-        E.outcome result (state_of counts ps may_read.entry.now may_write.entry.now active unlocked sleeping holder.new readers.exit.now writers.exit.now certified.new request.new)
-        ≡ E.perform (state_of counts ps may_read.entry.now may_write.entry.now active unlocked sleeping holder.old readers.entry.now writers.entry.now certified.old request.old) 7 rank object }
+fn certify(state: &mut PartsMut, rank: u8, object: u8) -> Result<Answer, Refusal>
+    requires { (state.old.counts.jobs ≤ most_jobs) × HolderFacts (state_in_mut state.old) }
+    ensures next { E.outcome (answer_of result) (state_in_mut state.new) ≡ E.perform (state_in_mut state.old) 7 rank object }
+    ensures same { SamePlaces state.old state.new }
 {
-    let number = certify_refusal(
-        counts, may_write, active, unlocked, sleeping, writers, certified, request, rank, object,
-    );
-    if number != 0 {
-        return Answer::Refused(number);
-    }
-    let answer = grant_or_wait(
-        counts, may_read, may_write, holder, readers, writers, certified, request, 3, rank, object,
-    );
-    answer
+    certify_refusal(&state.read(), rank, object)?;
+    Ok(grant_or_wait(state, 3, rank, object))
 }
 
 // After kinds 4, 5 and 6: the most urgent waiting job whose request passes gets its lock.
-fn wake<'a>(
-    counts: Counts,
-    may_read: Sets<'a>,
-    may_write: Sets<'a>,
-    holder: &mut u8,
-    readers: SetsMut,
-    writers: SetsMut,
-    certified: &mut ObjectMarks,
-    request: &mut JobRequests,
-) -> Answer
-    requires { (counts.jobs ≤ most_jobs) × RequestsFit request.old
-        × HolderFacts (held_state counts may_read.now may_write.now holder.old readers.now writers.now certified.old) }
-    ensures { (a u z : ℕ) (ps : List ℕ) →
-        E.outcome result (state_of counts ps may_read.entry.now may_write.entry.now a u z holder.new readers.exit.now writers.exit.now certified.new request.new)
-        ≡ E.wake (state_of counts ps may_read.entry.now may_write.entry.now a u z holder.old readers.entry.now writers.entry.now certified.old request.old) }
+fn wake(state: &mut PartsMut) -> Answer
+    requires { (state.old.counts.jobs ≤ most_jobs) × RequestsFit state.old.request.now × HolderFacts (state_in_mut state.old) }
+    ensures next { E.outcome result (state_in_mut state.new) ≡ E.wake (state_in_mut state.old) }
+    ensures same { SamePlaces state.old state.new }
 {
-    let rank = rule::wakeable(
-        counts, may_read, may_write, *holder, readers, writers, certified, request,
-    );
+    let rank = rule::wakeable(&state.read());
     if rank != 0 {
-        let asked = request[(rank - 1) as usize];
-        grant(
-            readers,
-            writers,
-            certified,
-            request,
-            mode_of_request(asked),
-            rank,
-            object_of_request(asked),
-        );
-        *holder = rank;
+        let asked = state.request[(rank - 1) as usize];
+        grant(state, mode_of_request(asked), rank, object_of_request(asked));
+        *state.holder = rank;
     }
     Answer::Done(rank)
 }
 
 // Kind 4: the job gives up its read lock on the object, and is marked.
-fn unlock<'a>(
-    counts: Counts,
-    may_read: Sets<'a>,
-    may_write: Sets<'a>,
-    active: RankSet,
-    unlocked: &mut RankSet,
-    sleeping: RankSet,
-    holder: &mut u8,
-    readers: SetsMut,
-    writers: SetsMut,
-    certified: &mut ObjectMarks,
-    request: &mut JobRequests,
-    rank: u8,
-    object: u8,
-) -> Answer
-    requires { InRange counts request.old
-        × HolderFacts (held_state counts may_read.now may_write.now holder.old readers.now writers.now certified.old) }
-    ensures { (ps : List ℕ) →
-        E.outcome result (state_of counts ps may_read.entry.now may_write.entry.now active unlocked.new sleeping holder.new readers.exit.now writers.exit.now certified.new request.new)
-        ≡ E.perform (state_of counts ps may_read.entry.now may_write.entry.now active unlocked.old sleeping holder.old readers.entry.now writers.entry.now certified.old request.old) 4 rank object }
+fn unlock(state: &mut PartsMut, rank: u8, object: u8) -> Result<Answer, Refusal>
+    requires { InRange state.old.counts state.old.request.now × HolderFacts (state_in_mut state.old) }
+    ensures next { E.outcome (answer_of result) (state_in_mut state.new) ≡ E.perform (state_in_mut state.old) 4 rank object }
+    ensures same { SamePlaces state.old state.new }
 {
-    let number = unlock_refusal(
-        counts, active, sleeping, readers, writers, request, rank, object,
-    );
-    if number != 0 {
-        return Answer::Refused(number);
+    unlock_refusal(&state.read(), rank, object)?;
+    release(state, rank, object);
+    if *state.holder == rank {
+        *state.holder = holder_of(state.readers, state.writers);
     }
-    release(unlocked, readers, rank, object);
-    if *holder == rank {
-        *holder = holder_of(readers, writers);
-    }
-    wake(
-        counts, may_read, may_write, holder, readers, writers, certified, request,
-    )
+    Ok(wake(state))
 }
 
 // The job's run ends, with its locks, its marks and its request.
-fn end_run<'a>(
-    counts: Counts,
-    may_read: Sets<'a>,
-    may_write: Sets<'a>,
-    active: &mut RankSet,
-    unlocked: &mut RankSet,
-    sleeping: &mut RankSet,
-    holder: &mut u8,
-    readers: SetsMut,
-    writers: SetsMut,
-    certified: &mut ObjectMarks,
-    request: &mut JobRequests,
-    rank: u8,
-) -> Answer
-    requires { (counts.jobs ≤ most_jobs) × (1 ≤ rank) × (rank ≤ most_jobs) × RequestsFit request.old
-        × HolderFacts (held_state counts may_read.now may_write.now holder.old readers.now writers.now certified.old) }
-    ensures { (ps : List ℕ) →
-        E.outcome result (state_of counts ps may_read.entry.now may_write.entry.now active.new unlocked.new sleeping.new holder.new readers.exit.now writers.exit.now certified.new request.new)
-        ≡ E.finish (state_of counts ps may_read.entry.now may_write.entry.now active.old unlocked.old sleeping.old holder.old readers.entry.now writers.entry.now certified.old request.old) rank }
+fn end_run(state: &mut PartsMut, rank: u8) -> Answer
+    requires { (state.old.counts.jobs ≤ most_jobs) × (1 ≤ rank) × (rank ≤ most_jobs) × RequestsFit state.old.request.now × HolderFacts (state_in_mut state.old) }
+    ensures next { E.outcome result (state_in_mut state.new) ≡ E.finish (state_in_mut state.old) rank }
+    ensures same { SamePlaces state.old state.new }
 {
-    *active = ranks::without(*active, rank);
-    *unlocked = ranks::without(*unlocked, rank);
-    *sleeping = ranks::without(*sleeping, rank);
-    drop_marks(certified, writers, rank);
-    let reading = release_sets(readers, rank);
-    let writing = release_sets(writers, rank);
-    *holder = ranks::most_urgent(ranks::union(reading, writing));
-    store_request(request, rank, 0);
-    wake(
-        counts, may_read, may_write, holder, readers, writers, certified, request,
-    )
+    *state.active = ranks::without(*state.active, rank);
+    *state.unlocked = ranks::without(*state.unlocked, rank);
+    *state.sleeping = ranks::without(*state.sleeping, rank);
+    drop_marks(state.certified, state.writers, rank);
+    let reading = release_sets(state.readers, rank);
+    let writing = release_sets(state.writers, rank);
+    *state.holder = ranks::most_urgent(ranks::union(reading, writing));
+    store_request(state.request, rank, 0);
+    wake(state)
 }
 
 // Kinds 5 and 6: the job's run ends; an abandonment also ends that of a waiting job.
-fn finish<'a>(
-    counts: Counts,
-    may_read: Sets<'a>,
-    may_write: Sets<'a>,
-    active: &mut RankSet,
-    unlocked: &mut RankSet,
-    sleeping: &mut RankSet,
-    holder: &mut u8,
-    readers: SetsMut,
-    writers: SetsMut,
-    certified: &mut ObjectMarks,
-    request: &mut JobRequests,
-    kind: u8,
-    rank: u8,
-    object: u8,
-) -> Answer
-    requires { InRange counts request.old × (5 ≤ kind) × (kind ≤ 6)
-        × HolderFacts (held_state counts may_read.now may_write.now holder.old readers.now writers.now certified.old) }
-    ensures { (ps : List ℕ) →
-        E.outcome result (state_of counts ps may_read.entry.now may_write.entry.now active.new unlocked.new sleeping.new holder.new readers.exit.now writers.exit.now certified.new request.new)
-        ≡ E.perform (state_of counts ps may_read.entry.now may_write.entry.now active.old unlocked.old sleeping.old holder.old readers.entry.now writers.entry.now certified.old request.old) kind rank object }
+fn finish(state: &mut PartsMut, kind: u8, rank: u8, object: u8) -> Result<Answer, Refusal>
+    requires { InRange state.old.counts state.old.request.now × (5 ≤ kind) × (kind ≤ 6) × HolderFacts (state_in_mut state.old) }
+    ensures next { E.outcome (answer_of result) (state_in_mut state.new) ≡ E.perform (state_in_mut state.old) kind rank object }
+    ensures same { SamePlaces state.old state.new }
 {
-    let number = finish_refusal(
-        counts, *active, *sleeping, writers, certified, request, kind, rank, object,
-    );
-    if number != 0 {
-        return Answer::Refused(number);
-    }
-    end_run(
-        counts, may_read, may_write, active, unlocked, sleeping, holder, readers, writers,
-        certified, request, rank,
-    )
+    finish_refusal(&state.read(), kind, rank, object)?;
+    Ok(end_run(state, rank))
 }
 
 // Kinds 8 and 9: the job falls asleep, or is awakened. No lock moves, and the waiting jobs are not searched.
-fn sleep_or_awaken(
-    counts: Counts,
-    active: RankSet,
-    sleeping: &mut RankSet,
-    request: &JobRequests,
-    kind: u8,
-    rank: u8,
-    object: u8,
-) -> Answer
-    requires { (counts.jobs ≤ most_jobs) × (8 ≤ kind) × (kind ≤ 9) }
-    ensures { (u h : ℕ) (ps mr mw rs ws cs : List ℕ) →
-        E.outcome result (state_of counts ps mr mw active u sleeping.new h rs ws cs request.now)
-        ≡ E.perform (state_of counts ps mr mw active u sleeping.old h rs ws cs request.now) kind rank object }
+fn sleep_or_awaken(state: &mut PartsMut, kind: u8, rank: u8, object: u8) -> Result<Answer, Refusal>
+    requires { (state.old.counts.jobs ≤ most_jobs) × (8 ≤ kind) × (kind ≤ 9) }
+    ensures next { E.outcome (answer_of result) (state_in_mut state.new) ≡ E.perform (state_in_mut state.old) kind rank object }
+    ensures same { SamePlaces state.old state.new }
 {
-    let asleep = *sleeping;
-    let number = sleep_refusal(counts, active, asleep, request, kind, rank, object);
-    if number != 0 {
-        return Answer::Refused(number);
-    }
+    sleep_refusal(&state.read(), kind, rank, object)?;
     if kind == 8 {
-        *sleeping = ranks::with(asleep, rank);
+        *state.sleeping = ranks::with(*state.sleeping, rank);
     } else {
-        *sleeping = ranks::without(asleep, rank);
+        *state.sleeping = ranks::without(*state.sleeping, rank);
     }
-    Answer::Done(0)
+    Ok(Answer::Done(0))
+}
+
+// The answer, refused or not.
+fn answer_of(answered: Result<Answer, Refusal>) -> Answer
+    ensures { result ≡ answer_of answered }
+{
+    match answered {
+        Ok(answer) => answer,
+        Err(refusal) => Answer::Refused(refusal.number()),
+    }
 }
 
 // An event in a well-formed state: the rule of its kind; 9 where it has none.
-pub fn perform<'a>(
-    counts: Counts,
-    may_read: Sets<'a>,
-    may_write: Sets<'a>,
-    active: &mut RankSet,
-    unlocked: &mut RankSet,
-    sleeping: &mut RankSet,
-    holder: &mut u8,
-    readers: SetsMut,
-    writers: SetsMut,
-    certified: &mut ObjectMarks,
-    request: &mut JobRequests,
-    kind: u8,
-    rank: u8,
-    object: u8,
-) -> Answer
-    requires { InRange counts request.old
-        × HolderFacts (held_state counts may_read.now may_write.now holder.old readers.now writers.now certified.old) }
-    ensures { (ps : List ℕ) →
-        E.outcome result (state_of counts ps may_read.entry.now may_write.entry.now active.new unlocked.new sleeping.new holder.new readers.exit.now writers.exit.now certified.new request.new)
-        ≡ E.perform (state_of counts ps may_read.entry.now may_write.entry.now active.old unlocked.old sleeping.old holder.old readers.entry.now writers.entry.now certified.old request.old) kind rank object }
+pub fn perform(state: &mut PartsMut, kind: u8, rank: u8, object: u8) -> Answer
+    requires { InRange state.old.counts state.old.request.now × HolderFacts (state_in_mut state.old) }
+    ensures next { E.outcome result (state_in_mut state.new) ≡ E.perform (state_in_mut state.old) kind rank object }
+    ensures same { SamePlaces state.old state.new }
 {
-    match kind {
-        1 => start(counts, active, rank, object),
-        2 | 3 => lock(
-            counts, may_read, may_write, *active, *unlocked, *sleeping, holder, readers, writers,
-            certified, request, kind, rank, object,
-        ),
-        4 => unlock(
-            counts, may_read, may_write, *active, unlocked, *sleeping, holder, readers, writers,
-            certified, request, rank, object,
-        ),
-        5 | 6 => finish(
-            counts, may_read, may_write, active, unlocked, sleeping, holder, readers, writers,
-            certified, request, kind, rank, object,
-        ),
-        7 => certify(
-            counts, may_read, may_write, *active, *unlocked, *sleeping, holder, readers, writers,
-            certified, request, rank, object,
-        ),
-        8 | 9 => sleep_or_awaken(counts, *active, sleeping, request, kind, rank, object),
-        0 | 10..=255 => Answer::Refused(9),
-    }
+    answer_of(match kind {
+        1 => start(state, rank, object),
+        2 | 3 => lock(state, kind, rank, object),
+        4 => unlock(state, rank, object),
+        5 | 6 => finish(state, kind, rank, object),
+        7 => certify(state, rank, object),
+        8 | 9 => sleep_or_awaken(state, kind, rank, object),
+        0 | 10..=255 => Err(Refusal::NoSuchKind),
+    })
 }

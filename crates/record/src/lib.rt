@@ -2,7 +2,7 @@
 #![tactic(auto)]
 
 ghost use Rattle.std.specs.Prelude.{◌≡◌, ◌+◌, ◌*◌, ◌/◌, ◌^◌, ◌≤◌, ◌<◌, length};
-ghost use Rattle.state.specs.State.{state_of};
+ghost use Rattle.state.specs.Lent.{state_in_mut, SamePlaces};
 ghost use Rattle.manager.specs.Step.{step};
 ghost use Rattle.manager.specs.Keeping.{Tested};
 ghost use Rattle.manager.specs.EventList.{state_after};
@@ -12,25 +12,13 @@ ghost use Rattle.record.specs.Record.{event_lines};
 
 use lines::lay_event;
 use manager::act_known;
-use ranks::RankSet;
-use state::{Counts, JobProcessors, JobRequests, ObjectMarks, Sets, SetsMut};
+use state::PartsMut;
 use well_formed::fits_sized;
 
 // An event on the parts of a state of which it is known whether it is well formed, in place, and its line laid at the index; answers the index behind it.
-fn lay_answered<'a>(
+fn lay_answered(
     well: bool,
-    counts: Counts,
-    processor_of: &'a JobProcessors,
-    may_read: Sets<'a>,
-    may_write: Sets<'a>,
-    active: &mut RankSet,
-    unlocked: &mut RankSet,
-    sleeping: &mut RankSet,
-    holder: &mut u8,
-    readers: SetsMut,
-    writers: SetsMut,
-    certified: &mut ObjectMarks,
-    request: &mut JobRequests,
+    state: &mut PartsMut,
     buf: &mut [u8],
     at: usize,
     number: u64,
@@ -38,78 +26,31 @@ fn lay_answered<'a>(
     rank: u8,
     object: u8,
 ) -> usize
-    requires { Tested well (state_of counts processor_of.now may_read.now may_write.now active.old unlocked.old sleeping.old holder.old readers.now writers.now certified.old request.old) × (at + 45 ≤ length buf.old) }
-    ensures { (state_of counts processor_of.now may_read.entry.now may_write.entry.now active.new unlocked.new sleeping.new holder.new readers.exit.now writers.exit.now certified.new request.new
-        ≡ (step (state_of counts processor_of.now may_read.entry.now may_write.entry.now active.old unlocked.old sleeping.old holder.old readers.entry.now writers.entry.now certified.old request.old) kind rank object).state)
-        × Laid buf.old buf.new at result 45 (event_line counts.version number kind rank object
-        (step (state_of counts processor_of.now may_read.entry.now may_write.entry.now active.old unlocked.old sleeping.old holder.old readers.entry.now writers.entry.now certified.old request.old) kind rank object).answer) }
+    requires { Tested well (state_in_mut state.old) × (at + 45 ≤ length buf.old) }
+    ensures next { state_in_mut state.new ≡ (step (state_in_mut state.old) kind rank object).state }
+    ensures line { Laid buf.old buf.new at result 45 (event_line state.old.counts.version number kind rank object (step (state_in_mut state.old) kind rank object).answer) }
+    ensures same { SamePlaces state.old state.new }
 {
-    let answer = act_known(
-        well,
-        counts,
-        processor_of,
-        may_read,
-        may_write,
-        active,
-        unlocked,
-        sleeping,
-        holder,
-        readers,
-        writers,
-        certified,
-        request,
-        kind,
-        rank,
-        object,
-    );
-    lay_event(buf, at, counts.version, number, kind, rank, object, answer)
+    let version = state.counts.version;
+    let answer = act_known(well, state, kind, rank, object);
+    lay_event(buf, at, version, number, kind, rank, object, answer)
 }
 
 // The same, for all events in the bytes, with so many before them; one or two bytes left over are not looked at.
 // Their lines are laid at the front of the buffer; answers the lines' length.
-fn lay_each<'a>(
-    well: bool,
-    counts: Counts,
-    processor_of: &'a JobProcessors,
-    may_read: Sets<'a>,
-    may_write: Sets<'a>,
-    active: &mut RankSet,
-    unlocked: &mut RankSet,
-    sleeping: &mut RankSet,
-    holder: &mut u8,
-    readers: SetsMut,
-    writers: SetsMut,
-    certified: &mut ObjectMarks,
-    request: &mut JobRequests,
-    buf: &mut [u8],
-    events: u64,
-    bytes: &[u8],
-) -> usize
-    requires { Tested well (state_of counts processor_of.now may_read.now may_write.now active.old unlocked.old sleeping.old holder.old readers.now writers.now certified.old request.old) × (15 * length bytes.now ≤ length buf.old) × (events + length bytes.now / 3 < 2 ^ 64) }
-    ensures { (state_of counts processor_of.now may_read.entry.now may_write.entry.now active.new unlocked.new sleeping.new holder.new readers.exit.now writers.exit.now certified.new request.new
-        ≡ state_after (state_of counts processor_of.now may_read.entry.now may_write.entry.now active.old unlocked.old sleeping.old holder.old readers.entry.now writers.entry.now certified.old request.old) bytes.now)
-        × Laid buf.old buf.new 0 result (15 * length bytes.now)
-        (event_lines (state_of counts processor_of.now may_read.entry.now may_write.entry.now active.old unlocked.old sleeping.old holder.old readers.entry.now writers.entry.now certified.old request.old) events bytes.now) }
+fn lay_each(well: bool, state: &mut PartsMut, buf: &mut [u8], events: u64, bytes: &[u8]) -> usize
+    requires { Tested well (state_in_mut state.old) × (15 * length bytes.now ≤ length buf.old) × (events + length bytes.now / 3 < 2 ^ 64) }
+    ensures next { state_in_mut state.new ≡ state_after (state_in_mut state.old) bytes.now }
+    ensures lines { Laid buf.old buf.new 0 result (15 * length bytes.now) (event_lines (state_in_mut state.old) events bytes.now) }
+    ensures same { SamePlaces state.old state.new }
 {
-    let mut at = 0;
     let mut end = 0;
-    let mut number = events;
-    while bytes.len() - at >= 3 {
-        number += 1;
+    for i in 0..bytes.len() / 3 {
+        let at = 3 * i;
+        let number = events + i as u64 + 1;
         end = lay_answered(
             well,
-            counts,
-            processor_of,
-            may_read,
-            may_write,
-            active,
-            unlocked,
-            sleeping,
-            holder,
-            readers,
-            writers,
-            certified,
-            request,
+            state,
             buf,
             end,
             number,
@@ -117,66 +58,18 @@ fn lay_each<'a>(
             bytes[at + 1],
             bytes[at + 2],
         );
-        at += 3;
     }
     end
 }
 
 // The events in the bytes, with so many before them, on the parts of a state, in place: the state is tested once. One or two bytes left over are not looked at.
 // Their lines are laid at the front of the buffer; answers the lines' length.
-pub fn lay_events<'a>(
-    counts: Counts,
-    processor_of: &'a JobProcessors,
-    may_read: Sets<'a>,
-    may_write: Sets<'a>,
-    active: &mut RankSet,
-    unlocked: &mut RankSet,
-    sleeping: &mut RankSet,
-    holder: &mut u8,
-    readers: SetsMut,
-    writers: SetsMut,
-    certified: &mut ObjectMarks,
-    request: &mut JobRequests,
-    buf: &mut [u8],
-    events: u64,
-    bytes: &[u8],
-) -> usize
+pub fn lay_events(state: &mut PartsMut, buf: &mut [u8], events: u64, bytes: &[u8]) -> usize
     requires { (15 * length bytes.now ≤ length buf.old) × (events + length bytes.now / 3 < 2 ^ 64) }
-    ensures { (state_of counts processor_of.now may_read.entry.now may_write.entry.now active.new unlocked.new sleeping.new holder.new readers.exit.now writers.exit.now certified.new request.new
-        ≡ state_after (state_of counts processor_of.now may_read.entry.now may_write.entry.now active.old unlocked.old sleeping.old holder.old readers.entry.now writers.entry.now certified.old request.old) bytes.now)
-        × Laid buf.old buf.new 0 result (15 * length bytes.now)
-        (event_lines (state_of counts processor_of.now may_read.entry.now may_write.entry.now active.old unlocked.old sleeping.old holder.old readers.entry.now writers.entry.now certified.old request.old) events bytes.now) }
+    ensures next { state_in_mut state.new ≡ state_after (state_in_mut state.old) bytes.now }
+    ensures lines { Laid buf.old buf.new 0 result (15 * length bytes.now) (event_lines (state_in_mut state.old) events bytes.now) }
+    ensures same { SamePlaces state.old state.new }
 {
-    let well = fits_sized(
-        counts,
-        processor_of,
-        may_read,
-        may_write,
-        *active,
-        *unlocked,
-        *sleeping,
-        *holder,
-        readers,
-        writers,
-        certified,
-        request,
-    );
-    lay_each(
-        well,
-        counts,
-        processor_of,
-        may_read,
-        may_write,
-        active,
-        unlocked,
-        sleeping,
-        holder,
-        readers,
-        writers,
-        certified,
-        request,
-        buf,
-        events,
-        bytes,
-    )
+    let well = fits_sized(&state.read());
+    lay_each(well, state, buf, events, bytes)
 }
