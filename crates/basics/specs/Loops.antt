@@ -2,7 +2,8 @@
 -- Each goes by how many are done, so that a turn of a loop is one unfolding; then its laws.
 -- Assumes nothing.
 use Rattle.std.specs.Prelude.{◌≡◌, refl, ◌⊎◌, Bool, true, false, ◌&&◌, List, [], ◌++◌, ℕ, zero, suc, ◌+◌, ◌*◌, ◌≤◌, ◌<◌, min, leb, length}
-use Rattle.std.proofs.Common.{sym, ap, ap₂, subst, ◌∙◌, inl, inr, ⊎_elim, zero-le, le_refl, eq-or-lt_of_le, le_of_suc-le-suc, add-zero, add-suc, mul-zero, mul-suc, mul-add, add-one, arith, length-append, leb-true, leb-false}
+use Rattle.std.proofs.Common.{sym, ap, ap₂, subst, ◌∙◌, inl, inr, ⊎_elim, zero-le, le_refl, eq-or-lt_of_le, le_of_suc-le-suc, add-zero, add-suc, mul-zero, mul-suc, mul-add, add-one, one-add, arith, length-append, leb-true, leb-false}
+use Rattle.std.specs.List.{list_all, range_with_len}
 use Rattle.basics.specs.Choice.{◌or_else◌, clash, and_true, and_left, and_right, and_assoc, same_test, or_else_zero, or_else_not}
 
 -- p holds at each of 1, .., n
@@ -89,6 +90,15 @@ every_split i (suc n) p =
     ap (λ (k : ℕ). every k p) (add-suc i n)
     ∙ ap₂ ◌&&◌ (every_split i n p) (ap p (sym (add-suc i n)))
     ∙ and_assoc (every i p) (every n (λ k. p (i + k))) (p (i + suc n))
+
+-- the library's `all` over the numbers from a on, n of them
+pub all_every : (a n : ℕ) (test p : ℕ → Bool) → ((i : ℕ) → i < n → test (a + i) ≡ p (i + 1)) → list_all test (range_with_len a n) ≡ every n p
+unfolding every
+all_every a zero test p same = refl
+all_every a (suc n) test p same =
+    ap₂ ◌&&◌ (ap test (sym (add-zero a)) ∙ same 0 (omega arith))
+    (all_every (a + 1) n test (λ i. p (1 + i)) (λ i h. ap test (omega arith) ∙ same (i + 1) (omega arith) ∙ ap p (omega arith)))
+    ∙ sym (every_split 1 n p) ∙ ap (λ (k : ℕ). every k p) (one-add n)
 
 -- ---- the least: the greatest number that is at most `top` and each of them
 

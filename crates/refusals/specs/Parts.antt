@@ -1,9 +1,9 @@
--- The chain of Refusals.antt over the parts of a state that the code sees: 14 and 26 together; for a request, with 15 to 17 by the sets of its object, for one
--- to certify, for a run's end, and for kinds 8 and 9.
+-- The chain of Refusals.antt over the parts of a state that the code sees: 14 and 26 together, and with 13 before the rest; for a request, with 15 to 17 by the
+-- sets of its object, for one to certify, for a run's end, and for kinds 8 and 9.
 -- Assumes nothing.
-use Rattle.std.specs.Prelude.{◌≡◌, refl, ◌≢◌, List, Bool, true, false, not, ◌&&◌, ◌||◌, ℕ, ◌+◌, ◌-◌, ◌≤◌, ◌<◌, eqb}
+use Rattle.std.specs.Prelude.{◌≡◌, refl, ◌≢◌, List, Bool, true, false, not, ◌&&◌, ◌||◌, ℕ, ◌+◌, ◌-◌, ◌≤◌, ◌<◌, min, eqb}
 use Rattle.std.proofs.Common.{sym, subst, ap, ◌∙◌, arith, eqb-true, eq-eqb, ne_eqb}
-use Rattle.std.proofs.Math.Decide.{ℕ_discrete}
+use Rattle.std.proofs.Math.Decide.{dec_le, ℕ_discrete}
 use Rattle.std.proofs.lemmas.Bool.{eqb-false}
 use Rattle.basics.specs.Choice.{◌if◌else◌, ◌or_else◌, clash, or_right, inside_between}
 use Rattle.basics.specs.Arrays.{at}
@@ -26,6 +26,14 @@ pub ready_first : (waits sleeps : Bool) (rest : ℕ) → ((14 if waits else 26 i
 ready_first true sleeps rest = refl
 ready_first false true rest = refl
 ready_first false false rest = refl
+
+-- 13, 14 and 26 of rank r, before the rest
+abbrev pub job_event_refusal : State → Bool → ℕ → ℕ → ℕ
+job_event_refusal s ready r rest =
+    13 if not (is_active s r) else
+    14 if ready && is_waiting s r else
+    26 if ready && is_sleeping s r else
+    rest
 
 -- 15 to 17 of rank r's request in mode m, by the set of those that have unlocked and the sets of the object
 abbrev pub right_refusal : ℕ → ℕ → ℕ → ℕ → ℕ → ℕ → ℕ → ℕ
@@ -132,6 +140,16 @@ eight_unwritten writers certified r i e o a b =
     let none : member (at writers o) r ≡ false =
     subst (λ (n : ℕ). member (at writers n) r ≡ false) here (member-unions 8 (λ k. at writers (i + k)) r (o - i) e (omega arith) (omega arith)) in
     ap (λ (t : Bool). not t || marked certified o) none
+
+-- the first i of n objects are certified, and so are those behind them up to i + 8
+pub eight_more : (writers certified : List ℕ) (r i n : ℕ)
+    → ((o : ℕ) → 1 ≤ o → o ≤ i → o ≤ n → written_well writers certified r o ≡ true)
+    → every (min (i + 8) n - i) (λ k. written_well writers certified r (i + k)) ≡ true
+    → (o : ℕ) → 1 ≤ o → o ≤ i + 8 → o ≤ n → written_well writers certified r o ≡ true
+eight_more writers certified r i n before eight o a b h = elim (dec_le o i) [
+  | yes l ↦ before o a l h
+  | no d ↦ eight_certified writers certified r i (min (i + 8) n) eight o (omega arith) (omega arith)
+]
 
 -- in version 2
 all_certified_is : (s : State) (r : ℕ) → s.counts.version ≢ 1 → all_certified s r ≡ every s.counts.objects (written_well s.writers s.certified r)

@@ -1,39 +1,17 @@
--- `refusals::certified_between` meets its contract. The loop's invariant: the objects up to the index are certified if the rank writes them; a turn looks at one
--- more. It ends because what is left of them falls.
+-- `refusals::certified_between` meets its contract: what it asks of each index is what is said of the object there.
 -- Assumes nothing.
-use Prim.Native.Nat.{ℕ, suc, ◌+◌, ◌-◌}
-use mathlib.Core.Path.{◌≡◌, refl, sym, ap, ap₂, ◌∙◌}
-use mathlib.Core.Bool.{Bool, true, false, not, ◌&&◌, ◌||◌}
-use native.Mathlib.Omega.{arith}
-use Rattle.basics.specs.Arrays.{at}
-use Rattle.basics.specs.Loops.{every_true, every_false}
-use Rattle.ranks.specs.Ranks.{member}
+use Rattle.std.proofs.Common.{Bool, ℕ, ◌+◌, ◌-◌, refl, ap, ◌∙◌, arith, rules, tests}
+use Rattle.std.proofs.lemmas.Iterator.{YieldsList-from_range}
+use Rattle.std.proofs.lemmas.Iterator.Search.{all_from_yields_List}
+use Rattle.basics.specs.Loops.{all_every}
 use Rattle.refusals.specs.Parts.{written_well}
 use Rattle.refusals.proofs.certified_between.Goals as goal
-
--- what the code tests is the opposite
-either : (x y : Bool) → not x || y ≡ not (x && not y)
-either true true = refl
-either true false = refl
-either false y = refl
-
-pub returns-then-written-is_marked : goal.returns-then-written-is_marked
-returns-then-written-is_marked c =
-    let a = c.args in
-    let o = c.loop-i.i + 1 in
-    let next : suc c.loop-i.i ≡ o = omega arith in
-    let here : written_well a.writers.now a.certified.now a.rank o ≡ not (c.contains-written.result && not c.is_marked.result) =
-    ap₂ (λ (x y : Bool). not x || y) (sym (c.contains-written.ensures ∙ ap (λ (n : ℕ). member (at a.writers.now n) a.rank) next)) (sym c.is_marked.ensures)
-    ∙ either c.contains-written.result c.is_marked.result in
-    let inv = c.loop-i.invariant in
-    let place : a.from + (o - a.from) ≡ o = omega (arith, inv.0) in
-    let bad = ap (written_well a.writers.now a.certified.now a.rank) place ∙ here ∙ ap not c.if-written-is_marked.true in
-    sym (every_false (a.last - a.from) (λ k. written_well a.writers.now a.certified.now a.rank (a.from + k)) (o - a.from) bad
-    (omega (arith, inv.0)) (omega (arith, inv.0, c.loop-i-test.true)))
 
 pub returns : goal.returns
 returns c =
     let a = c.args in
-    let inv = c.loop-i.invariant in
-    sym (every_true (a.last - a.from) (λ k. written_well a.writers.now a.certified.now a.rank (a.from + k))
-    (λ k p q. inv.2 (a.from + k) (omega arith) (omega (arith, inv.0, inv.1, c.loop-i-test.false))))
+    let w' = a.parts.now.writers.now in
+    let m = a.parts.now.certified.now in
+    let test : ℕ → Bool = λ i. written_well w' m a.rank (i + 1) in
+    all_from_yields_List test _ _ _ c.all.ensures.ran (YieldsList-from_range a.from a.last _ refl refl) (λ x b q k. search (rules, tests))
+    ∙ all_every a.from (a.last - a.from) test (λ k. written_well w' m a.rank (a.from + k)) (λ i h. ap (written_well w' m a.rank) (omega arith))
