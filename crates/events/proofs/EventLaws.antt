@@ -2,21 +2,24 @@
 -- Assumes nothing.
 use mathlib.Core.Path.{◌≡◌, refl, sym, subst, ap, ap₂, ◌∙◌}
 use mathlib.Core.Logic.{◌≢◌, ◌⊎◌, inl, inr}
-use mathlib.Core.Bool.{Bool, true, false}
+use mathlib.Core.Bool.{Bool, true, false, ◌||◌}
 use mathlib.Core.List.{List}
 use Prim.Native.Nat.{ℕ, ◌-◌, ◌≤◌}
 use native.Mathlib.Omega.{arith}
 use native.Mathlib.Decide.{ℕ_discrete, dec_le}
 use lib.ListN.{length}
+use lib.Dec.{eqb}
 use borrow.Author.Tests.{eq-eqb, ne_eqb, ltb-false, le-leb, lt-leb}
-use Rattle.basics.specs.Choice.{between, inside_between}
+use Rattle.basics.specs.Choice.{between, between_true, inside_between}
 use Rattle.basics.specs.Arrays.{at, put, at-put_same, at-put_other, at_out, length-put}
 use Rattle.ranks.specs.Ranks.{without, union, most_urgent, unions}
 use Rattle.state.specs.declared.Counts.{Counts}
 use Rattle.state.specs.declared.State.{State}
+use Rattle.state.specs.declared.refusal.Refusal.{Refusal}
+use Rattle.state.specs.RefusalNumbers.{number, number_positive}
 use Rattle.state.specs.State.{most_jobs, most_objects, most_urgent_holder, certify, requested_mode, requested_object, grant_readers, grant_writers, release_readers, release_sets, drop_marks, activate, await, grant, release, end_run}
 use Rattle.state.specs.Weights.{weight}
-use Rattle.state.specs.Holders.{HolderFacts, held_state, held_of, held_facts, granted_holder, release_holders, end_run_holders, end_run_holder}
+use Rattle.state.specs.Holders.{HolderFacts, granted_holder, end_run_holder}
 use Rattle.state.proofs.Releasing.{release_holder}
 use Rattle.weights.specs.Keys.{Weigh, key_weight, key_holder, key_object, others_key, object_key, lowest_key_by, lowest_key}
 use Rattle.one_holder.specs.OneHolder.{deciding_key, Decides}
@@ -25,9 +28,12 @@ use Rattle.rule.proofs.ConflictLaws.{above_others}
 use Rattle.weights.specs.KeyLaws.{key_at}
 use Rattle.rule.specs.Granting.{passes_below, reason, wakes, wakeable}
 use Rattle.rule.specs.WakeLaws.{FoundAt, wakeable_found, wakes_is}
+use Rattle.std.specs.Prelude.{Result, Err}
+use Rattle.events.specs.declared.Answer.{Answer}
 use Rattle.events.specs.declared.Answer.TheVariants.{Granted, Waits, Done, Refused}
-use Rattle.refusals.specs.Accepting.{RequestsFit}
-use Rattle.refusals.specs.Refusals.{event_refusal}
+use Rattle.events.specs.Answers.{answer_of}
+use Rattle.refusals.specs.Accepting.{RequestsFit, accepted_numbers}
+use Rattle.refusals.specs.Refusals.{is_request, event_refusal}
 use Rattle.events.specs.Events.{outcome, request_meeting, request, woken, wake, unlock, finish, sleep_or_awaken, accepted, perform}
 
 -- ---- the rule of each kind
@@ -74,6 +80,9 @@ module _ (s : State) (k r o : ℕ) where
   unfolding perform
   perform_refused n e d = ap (λ (m : ℕ). outcome (Refused m) s) e ∙ sym (simp (ne_eqb (event_refusal s k r o) 0 (λ z. d (e ∙ z))))
 
+  pub perform_err : (e : Refusal) → number e ≡ event_refusal s k r o → outcome (Refused (number e)) s ≡ perform s k r o
+  perform_err e is = perform_refused (number e) is (number_positive e)
+
   pub perform_accepted : event_refusal s k r o ≡ 0 → perform s k r o ≡ accepted s k r o
   unfolding perform
   perform_accepted e = simp (eq-eqb (event_refusal s k r o) 0 e)
@@ -81,6 +90,30 @@ module _ (s : State) (k r o : ℕ) where
   pub perform_unknown : between 1 9 k ≡ false → outcome (Refused 9) s ≡ perform s k r o
   unfolding perform event_refusal
   perform_unknown e = sym (simp e)
+
+-- an event that is refused by what its parts say leaves them as they are
+pub refused_by : (s t : State) (k r o : ℕ) (e : Refusal) (result : Result Answer Refusal) → t ≡ s → number e ≡ event_refusal t k r o
+    → result ≡ Err e → outcome (answer_of result) s ≡ perform s k r o
+refused_by s t k r o e result same is err =
+    ap (λ (x : Result Answer Refusal). outcome (answer_of x) s) err ∙ perform_err s k r o e (is ∙ ap (λ (x : State). event_refusal x k r o) same)
+
+-- one that is not refused does what the rule of its kind says
+pub done_by : (s t : State) (k r o : ℕ) → t ≡ s → 0 ≡ event_refusal t k r o → accepted s k r o ≡ perform s k r o
+done_by s t k r o same is = sym (perform_accepted s k r o (sym (is ∙ ap (λ (x : State). event_refusal x k r o) same)))
+
+-- and, where its kind carries an object, one of the table
+pub object_by : (s t : State) (k r o : ℕ) → t ≡ s → 0 ≡ event_refusal t k r o → (is_request k || eqb k 4) ≡ true → s.counts.objects ≤ most_objects
+    → (1 ≤ o) × (o ≤ most_objects)
+object_by s t k r o same is carries few =
+    let n = accepted_numbers s k r o (sym (is ∙ ap (λ (x : State). event_refusal x k r o) same)) in
+    let inside = between_true 1 s.counts.objects o (simp carries at n.2) in
+    (inside.0, omega (arith, inside.1))
+
+-- and has a rank of the table
+pub ranked_by : (s t : State) (k r o : ℕ) → t ≡ s → 0 ≡ event_refusal t k r o → s.counts.jobs ≤ most_jobs → (1 ≤ r) × (r ≤ most_jobs)
+ranked_by s t k r o same is few =
+    let n = accepted_numbers s k r o (sym (is ∙ ap (λ (x : State). event_refusal x k r o) same)) in
+    (n.0, omega (arith, n.1))
 
 -- ---- a request
 
@@ -93,11 +126,18 @@ pub waits : (s : State) (m r o k : ℕ) → passes_below r k ≡ false
 unfolding request_meeting
 waits s m r o k e = simp e
 
+-- the key that stops a request is a lock's: its holder and its object are in range
+pub stopped : (weigh : Weigh) (s : State) (j k : ℕ) → k ≡ lowest_key_by weigh s j → passes_below j k ≡ false → j ≤ most_jobs → s.counts.objects ≤ most_objects
+    → (1 ≤ key_holder k) × (key_holder k ≤ most_jobs) × (1 ≤ key_object k) × (key_object k ≤ most_objects)
+stopped weigh s j k e fails l n = elim (key_at weigh s j) [
+  | inl z ↦ absurd (omega (arith, e, z, ltb-false j (key_weight k) fails))
+  | inr w ↦ (let r = w.lock.rank in let o = w.lock.object in omega (arith, e, w.is, r, o))
+]
+
 -- the key of the most urgent holder decides it as the full reading of all locks does
-module _ (s : State) (H : HolderFacts (held_of s)) (m r o : ℕ) (small : r ≤ most_jobs) (k : ℕ) (is : k ≡ deciding_key (held_of s) r) where
+module _ (s : State) (H : HolderFacts s) (m r o : ℕ) (small : r ≤ most_jobs) (k : ℕ) (is : k ≡ deciding_key s r) where
   full : Decides r k (lowest_key s r)
-  unfolding lowest_key_by object_key others_key weight
-  full = subst (λ key. Decides r key (lowest_key (held_of s) r)) (sym is) (deciding (held_of s) H r small)
+  full = subst (λ key. Decides r key (lowest_key s r)) (sym is) (deciding s H r small)
 
   pub decided : request_meeting s m r o k ≡ request s m r o
   decided = go (passes_below r (lowest_key s r)) refl
@@ -109,20 +149,14 @@ module _ (s : State) (H : HolderFacts (held_of s)) (m r o : ℕ) (small : r ≤ 
   pub stopping : passes_below r k ≡ false → k ≡ lowest_key s r
   stopping e = full.stops (sym full.same ∙ e)
 
+  -- the lock that is then named is one of the table
+  pub named : passes_below r k ≡ false → (1 ≤ key_holder k) × (key_holder k ≤ most_jobs) × (1 ≤ key_object k) × (key_object k ≤ most_objects)
+  named e = stopped (weight s) s r k (stopping e) e small H.few
+
   -- who is granted a lock is then the most urgent holder
   pub carries : 1 ≤ r → 1 ≤ o → o ≤ most_objects → passes_below r k ≡ true
       → r ≡ most_urgent_holder (grant_readers m r o s.readers) (grant_writers m r o s.writers)
-  unfolding lowest_key_by object_key others_key weight
-  carries low a b e =
-      sym (granted_holder (held_of s) H m r o low small a b (above_others (held_of s) H r (sym full.same ∙ e)))
-
--- the key that stops a request is a lock's: its holder and its object are in range
-pub stopped : (weigh : Weigh) (s : State) (j k : ℕ) → k ≡ lowest_key_by weigh s j → passes_below j k ≡ false → j ≤ most_jobs → s.counts.objects ≤ most_objects
-    → (1 ≤ key_holder k) × (key_holder k ≤ most_jobs) × (1 ≤ key_object k) × (key_object k ≤ most_objects)
-stopped weigh s j k e fails l n = elim (key_at weigh s j) [
-  | inl z ↦ absurd (omega (arith, e, z, ltb-false j (key_weight k) fails))
-  | inr w ↦ (let r = w.lock.rank in let o = w.lock.object in omega (arith, e, w.is, r, o))
-]
+  carries low a b e = sym (granted_holder s H m r o low small a b (above_others s H r (sym full.same ∙ e)))
 
 -- ---- the woken job
 
@@ -135,54 +169,33 @@ unfolding wake woken
 woken_some s r e d = rw (sym e) (simp (ne_eqb r 0 d))
 
 -- and is then the most urgent holder
-pub woken_carries : (s : State) → HolderFacts (held_of s) → (r : ℕ) → r ≡ wakeable s → s.counts.jobs ≤ most_jobs → 1 ≤ r
+pub woken_carries : (s : State) → HolderFacts s → (r : ℕ) → r ≡ wakeable s → s.counts.jobs ≤ most_jobs → 1 ≤ r
     → (1 ≤ requested_object s r) × (requested_object s r ≤ most_objects)
     → r ≡ most_urgent_holder (grant_readers (requested_mode s r) r (requested_object s r) s.readers) (grant_writers (requested_mode s r) r (requested_object s r) s.writers)
-unfolding lowest_key_by object_key others_key weight
 woken_carries s H r e few low object = elim (wakeable_found s) [
   | inl z ↦ absurd (omega (arith, e, z.0))
   | inr w ↦
       let found : FoundAt s.counts.jobs (wakes s) r = subst (FoundAt s.counts.jobs (wakes s)) (sym e) w in
       let pass = (wakes_is s r low found.itself).1 in
-      sym (granted_holder (held_of s) H (requested_mode s r) r (requested_object s r) low (omega (arith, found.high)) object.0 object.1
-      (above_others (held_of s) H r pass))
+      sym (granted_holder s H (requested_mode s r) r (requested_object s r) low (omega (arith, found.high)) object.0 object.1
+      (above_others s H r pass))
 ]
 
--- ---- locks given up, as the parts are then
+-- ---- locks given up
 
--- what is known of parts is known of equal ones
-pub same_parts : (counts : Counts) (mr mw : List ℕ) {h h' : ℕ} {rs rs' ws ws' cs cs' : List ℕ} → h' ≡ h → rs' ≡ rs → ws' ≡ ws → cs' ≡ cs
-    → HolderFacts (held_state counts mr mw h rs ws cs) → HolderFacts (held_state counts mr mw h' rs' ws' cs')
-same_parts counts mr mw {h} {h'} {rs} {rs'} {ws} {ws'} {cs} {cs'} p q u v H =
-    subst (λ x. HolderFacts (held_state counts mr mw x rs' ws' cs')) (sym p)
-    (subst (λ x. HolderFacts (held_state counts mr mw h x ws' cs')) (sym q)
-    (subst (λ x. HolderFacts (held_state counts mr mw h rs x cs')) (sym u)
-    (subst (λ x. HolderFacts (held_state counts mr mw h rs ws x)) (sym v) H)))
-
-module _ (s : State) (H : HolderFacts (held_of s)) (r : ℕ) where
-  pub released : (o : ℕ) → 1 ≤ o → o ≤ most_objects
-      → HolderFacts (held_state s.counts s.may_read s.may_write (most_urgent_holder (release_readers r o s.readers) s.writers) (release_readers r o s.readers)
-      s.writers s.certified)
-  unfolding release
-  released o low high = held_facts (release (held_of s) r o) (release_holders (held_of s) H r o low high)
-
+module _ (s : State) (H : HolderFacts s) (r : ℕ) where
   -- the carried rank after an unlock: looked for anew where it was the job's, else as it was
   pub next_holder : (o : ℕ) → 1 ≤ o → o ≤ most_objects → (h : ℕ) (readers : List ℕ) → readers ≡ release_readers r o s.readers
       → ((s.holder ≡ r) × (h ≡ most_urgent_holder readers s.writers)) ⊎ ((s.holder ≢ r) × (h ≡ s.holder))
       → h ≡ most_urgent_holder (release_readers r o s.readers) s.writers
   next_holder o low high h readers e (inl w) = w.1 ∙ ap (λ x. most_urgent_holder x s.writers) e
-  next_holder o low high h readers e (inr w) = w.1 ∙ sym (release_holder (held_of s) H r o low high w.0)
-
-  pub ended : HolderFacts (held_state s.counts s.may_read s.may_write (most_urgent_holder (release_sets r s.readers) (release_sets r s.writers))
-      (release_sets r s.readers) (release_sets r s.writers) (drop_marks r s.writers s.certified))
-  unfolding end_run
-  ended = held_facts (end_run (held_of s) r) (end_run_holders (held_of s) H r)
+  next_holder o low high h readers e (inr w) = w.1 ∙ sym (release_holder s H r o low high w.0)
 
   -- and after the end of a run, by what is left in the sets
   pub last_holder : (left reading writing : ℕ) → left ≡ union reading writing → reading ≡ unions most_objects (λ o. without (at s.readers o) r)
       → writing ≡ unions most_objects (λ o. without (at s.writers o) r)
       → most_urgent left ≡ most_urgent_holder (release_sets r s.readers) (release_sets r s.writers)
-  last_holder left reading writing e p q = ap most_urgent (e ∙ ap₂ union p q) ∙ end_run_holder (held_of s) H r
+  last_holder left reading writing e p q = ap most_urgent (e ∙ ap₂ union p q) ∙ end_run_holder s H r
 
 -- ---- requests in range stay in range
 

@@ -125,7 +125,7 @@ fn unlock(state: &mut PartsMut, rank: u8, object: u8) -> Result<Answer, Refusal>
     ensures same { SamePlaces state.old state.new }
 {
     unlock_refusal(&state.read(), rank, object)?;
-    release(state, rank, object);
+    release(state.unlocked, state.readers, rank, object);
     if *state.holder == rank {
         *state.holder = holder_of(state.readers, state.writers);
     }

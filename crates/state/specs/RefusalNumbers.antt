@@ -1,6 +1,6 @@
 -- The papers' number of each refusal (01, "Refusals by who can cause them"; 02): "Order: 8, then as numbered" says which comes first where several hold.
 -- Assumes nothing.
-use Rattle.std.specs.Prelude.{ℕ, ◌≤◌, Result, Ok, Err}
+use Rattle.std.specs.Prelude.{ℕ, ◌≢◌, Result, Ok, Err}
 use Rattle.std.proofs.Common.{arith}
 use Rattle.state.specs.declared.refusal.Refusal.{Refusal}
 use Rattle.state.specs.declared.refusal.Refusal.TheVariants as V
@@ -41,31 +41,5 @@ refusal_number (Ok _) = 0
 refusal_number (Err refusal) = number refusal
 
 -- 0 is no refusal's number
-pub number_some : (refusal : Refusal) → 1 ≤ number refusal
-number_some V.TableCut = omega arith
-number_some V.NoTable = omega arith
-number_some V.TableVersion = omega arith
-number_some V.TableCounts = omega arith
-number_some V.ProcessorByte = omega arith
-number_some V.EntryField = omega arith
-number_some V.EntryOrder = omega arith
-number_some V.NotWellFormed = omega arith
-number_some V.NoSuchKind = omega arith
-number_some V.NoSuchRank = omega arith
-number_some V.NoSuchObject = omega arith
-number_some V.JobActive = omega arith
-number_some V.JobIdle = omega arith
-number_some V.JobWaiting = omega arith
-number_some V.JobUnlocked = omega arith
-number_some V.NoRight = omega arith
-number_some V.LockHeld = omega arith
-number_some V.LockNotHeld = omega arith
-number_some V.NoSuchProcessor = omega arith
-number_some V.TableRoom = omega arith
-number_some V.WriteLockHeld = omega arith
-number_some V.PageRoom = omega arith
-number_some V.LoadRoom = omega arith
-number_some V.NoWriteLock = omega arith
-number_some V.NotCertified = omega arith
-number_some V.JobAsleep = omega arith
-number_some V.JobAwake = omega arith
+pub number_positive : (refusal : Refusal) → number refusal ≢ 0
+number_positive refusal = grind arith

@@ -1,48 +1,33 @@
 -- `events::certify` meets its contract: refused, or rank and object are in range and the request is granted or waits.
 -- Assumes nothing.
-use mathlib.Core.Path.{◌≡◌, sym, ◌∙◌}
-use mathlib.Core.List.{List, []}
-use Prim.Native.Nat.{ℕ, ◌≤◌}
+use mathlib.Core.Path.{refl, sym, ap, ◌∙◌}
+use Rattle.std.specs.Prelude.{Err}
+use Rattle.std.proofs.lemmas.Result.{err_from_is_err_and}
+use Rattle.state.specs.Lent.{state_in, state_in_mut}
 use native.Mathlib.Omega.{arith}
-use Rattle.basics.specs.Choice.{between_true}
-use Rattle.state.specs.declared.State.{State}
-use Rattle.state.specs.State.{most_jobs, most_objects, state_of}
-use Rattle.refusals.specs.Accepting.{accepted_numbers}
-use Rattle.refusals.specs.Refusals.{event_refusal}
 use Rattle.events.proofs.EventLaws as L
-use mathlib.Core.Path.{refl}
 use Rattle.events.proofs.certify.Goals as goal
-use Rattle.events.proofs.certify.Goals.{Start}
 
--- the state that the parts are of, with any other parts
-abbrev whole : (c : Start) → List ℕ → State
-whole c ps = let a = c.args in
-    state_of a.counts ps a.may_read.now a.may_write.now a.active a.unlocked a.sleeping a.holder.now a.readers.now a.writers.now a.certified.now a.request.now
-
--- what is known behind the refusals: rank and object are some that the arrays have
-numbers : (c : Start) → event_refusal (whole c []) 7 c.args.rank c.args.object ≡ 0
-    → (1 ≤ c.args.rank) × (c.args.rank ≤ most_jobs) × (1 ≤ c.args.object) × (c.args.object ≤ most_objects)
-numbers c e =
-    let n = accepted_numbers (whole c []) 7 c.args.rank c.args.object e in
-    let o = between_true 1 c.args.counts.objects c.args.object n.2 in
-    (n.0, omega (arith, n.1, c.requires.0), o.0, omega (arith, o.1, c.requires.1.few))
-
-pub returns-then-number-ne0 : goal.returns-then-number-ne0
-returns-then-number-ne0 c =
+pub returns-in_err-certify_refusal-clause-next : goal.returns-in_err-certify_refusal-clause-next
+returns-in_err-certify_refusal-clause-next c =
     let a = c.args in
-    λ ps. L.perform_refused (whole (c.before.before) ps) 7 a.rank a.object c.certify_refusal-number.result (c.certify_refusal-number.ensures a.holder.now ps a.may_read.now a.readers.now) c.if-number-ne0.true
+    let p = err_from_is_err_and c.from_residual.result c.from_residual.ensures.1 in
+    L.refused_by (state_in_mut a.state.now) (state_in c.read.result) 7 a.rank a.object c.in_err-certify_refusal.field-0.0 c.from_residual.result c.read.ensures
+    c.in_err-certify_refusal.ensures (p.1 ∙ ap Err p.2)
 
-pub grant_or_wait-answer-requires : goal.grant_or_wait-answer-requires
-grant_or_wait-answer-requires c =
+pub grant_or_wait-requires : goal.grant_or_wait-requires
+grant_or_wait-requires c =
     let a = c.args in
-    let n = numbers (c.before.before.before.before.before.before.before) (sym (c.certify_refusal-number.ensures a.holder.now [] a.may_read.now a.readers.now) ∙ c.if-number-ne0.false) in
-    (omega arith, omega arith, n.0, n.1, n.2, n.3, c.requires.1)
+    let s = state_in_mut a.state.now in
+    let H = c.requires.1 in
+    let r = L.ranked_by s (state_in c.read.result) 7 a.rank a.object c.read.ensures c.in_ok-certify_refusal.ensures c.requires.0 in
+    let o = L.object_by s (state_in c.read.result) 7 a.rank a.object c.read.ensures c.in_ok-certify_refusal.ensures refl H.few in
+    (omega arith, omega arith, r.0, r.1, o.0, o.1, H)
 
-pub returns : goal.returns
-returns c =
+pub returns-clause-next : goal.returns-clause-next
+returns-clause-next c =
     let a = c.args in
-    λ ps.
-    let s = whole (c.before.before.before.before.before.before.before.before) ps in
-    c.grant_or_wait-answer.ensures a.active a.unlocked a.sleeping ps
-    ∙ sym (L.perform_accepted s 7 a.rank a.object (sym (c.certify_refusal-number.ensures a.holder.now ps a.may_read.now a.readers.now) ∙ c.if-number-ne0.false)
-    ∙ L.accepted_certify s 7 a.rank a.object refl)
+    let s = state_in_mut a.state.now in
+    c.grant_or_wait.ensures.next
+    ∙ sym (L.accepted_certify s 7 a.rank a.object refl)
+    ∙ L.done_by s (state_in c.read.result) 7 a.rank a.object c.read.ensures c.in_ok-certify_refusal.ensures

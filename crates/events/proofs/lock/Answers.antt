@@ -1,46 +1,39 @@
 -- `events::lock` meets its contract: refused, or rank and object are in range and the request is granted or waits.
 -- Assumes nothing.
-use mathlib.Core.Path.{◌≡◌, sym, ◌∙◌}
-use mathlib.Core.List.{List, []}
-use Prim.Native.Nat.{ℕ, ◌≤◌}
+use mathlib.Core.Path.{◌≡◌, sym, ap, ◌∙◌}
+use mathlib.Core.Bool.{true, ◌||◌}
+use lib.Dec.{eqb}
+use Rattle.std.specs.Prelude.{Err}
+use Rattle.std.proofs.lemmas.Result.{err_from_is_err_and}
+use Rattle.state.specs.Lent.{state_in, state_in_mut}
 use native.Mathlib.Omega.{arith}
-use Rattle.basics.specs.Choice.{between_true, inside_between}
-use Rattle.state.specs.declared.State.{State}
-use Rattle.state.specs.State.{most_jobs, most_objects, state_of}
-use Rattle.refusals.specs.Accepting.{accepted_numbers}
-use Rattle.refusals.specs.Refusals.{event_refusal}
+use Rattle.basics.specs.Choice.{inside_between}
+use Rattle.refusals.specs.Refusals.{is_request}
 use Rattle.events.proofs.EventLaws as L
 use Rattle.events.proofs.lock.Goals as goal
-use Rattle.events.proofs.lock.Goals.{Start}
 
--- the state that the parts are of, with any other parts
-abbrev whole : (c : Start) → List ℕ → State
-whole c ps = let a = c.args in
-    state_of a.counts ps a.may_read.now a.may_write.now a.active a.unlocked a.sleeping a.holder.now a.readers.now a.writers.now a.certified.now a.request.now
-
--- what is known behind the refusals: rank and object are some that the arrays have
-numbers : (c : Start) → event_refusal (whole c []) c.args.kind c.args.rank c.args.object ≡ 0
-    → (1 ≤ c.args.rank) × (c.args.rank ≤ most_jobs) × (1 ≤ c.args.object) × (c.args.object ≤ most_objects)
-numbers c e =
-    let n = accepted_numbers (whole c []) c.args.kind c.args.rank c.args.object e in
-    let o = between_true 1 c.args.counts.objects c.args.object (simp (inside_between 2 3 c.args.kind c.requires.1 c.requires.2) at n.2) in
-    (n.0, omega (arith, n.1, c.requires.0), o.0, omega (arith, o.1, c.requires.3.few))
-
-pub returns-then-number-ne0 : goal.returns-then-number-ne0
-returns-then-number-ne0 c =
+pub returns-in_err-lock_refusal-clause-next : goal.returns-in_err-lock_refusal-clause-next
+returns-in_err-lock_refusal-clause-next c =
     let a = c.args in
-    λ ps. L.perform_refused (whole (c.before.before) ps) a.kind a.rank a.object c.lock_refusal-number.result (c.lock_refusal-number.ensures a.holder.now ps a.certified.now) c.if-number-ne0.true
+    let p = err_from_is_err_and c.from_residual.result c.from_residual.ensures.1 in
+    L.refused_by (state_in_mut a.state.now) (state_in c.read.result) a.kind a.rank a.object c.in_err-lock_refusal.field-0.0 c.from_residual.result c.read.ensures
+    c.in_err-lock_refusal.ensures (p.1 ∙ ap Err p.2)
 
-pub grant_or_wait-answer-requires : goal.grant_or_wait-answer-requires
-grant_or_wait-answer-requires c =
+pub grant_or_wait-requires : goal.grant_or_wait-requires
+grant_or_wait-requires c =
+    let a = c.args in
+    let s = state_in_mut a.state.now in
     let P = c.requires in
-    let n = numbers (c.before.before.before.before.before.before.before) (sym (c.lock_refusal-number.ensures c.args.holder.now [] c.args.certified.now) ∙ c.if-number-ne0.false) in
-    (omega (arith, P.1), omega (arith, P.2), n.0, n.1, n.2, n.3, P.3)
+    let H = P.3 in
+    let asked : (is_request a.kind || eqb a.kind 4) ≡ true = simp (inside_between 2 3 a.kind P.1 P.2) in
+    let r = L.ranked_by s (state_in c.read.result) a.kind a.rank a.object c.read.ensures c.in_ok-lock_refusal.ensures P.0 in
+    let o = L.object_by s (state_in c.read.result) a.kind a.rank a.object c.read.ensures c.in_ok-lock_refusal.ensures asked H.few in
+    (omega (arith, P.1), omega (arith, P.2), r.0, r.1, o.0, o.1, H)
 
-pub returns : goal.returns
-returns c =
+pub returns-clause-next : goal.returns-clause-next
+returns-clause-next c =
     let a = c.args in
-    λ ps.
-    let s = whole (c.before.before.before.before.before.before.before.before) ps in
-    c.grant_or_wait-answer.ensures a.active a.unlocked a.sleeping ps
-    ∙ sym (L.perform_accepted s a.kind a.rank a.object (sym (c.lock_refusal-number.ensures a.holder.now ps a.certified.now) ∙ c.if-number-ne0.false) ∙ L.accepted_lock s a.kind a.rank a.object c.requires.1 c.requires.2)
+    let s = state_in_mut a.state.now in
+    c.grant_or_wait.ensures.next
+    ∙ sym (L.accepted_lock s a.kind a.rank a.object c.requires.1 c.requires.2)
+    ∙ L.done_by s (state_in c.read.result) a.kind a.rank a.object c.read.ensures c.in_ok-lock_refusal.ensures
