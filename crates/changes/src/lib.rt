@@ -4,12 +4,14 @@
 ghost use Rattle.std.specs.Prelude.{◌≡◌, ◌+◌, ◌≤◌};
 ghost use Rattle.basics.specs.Arrays.{at, put};
 ghost use Rattle.ranks.specs.Ranks as R;
-ghost use Rattle.state.specs.State.{most_jobs, most_objects, most_urgent_holder, mode_of_request, object_of_request, mark, grant_readers, grant_writers, grant_marks, release_readers, release_sets, kept_in, drop_marks};
+ghost use Rattle.state.specs.Lent.{SamePlaces, state_in_mut};
+ghost use Rattle.state.specs.State.{most_jobs, most_objects, with_locks, most_urgent_holder, mode_of_request, object_of_request, mark, grant_readers, grant_writers, grant_marks, release_readers, release_sets, kept_in, drop_marks};
 
 use ranks::RankSet;
-use state::{JobRequests, ObjectMarks, Sets, SetsMut, union_of};
+use state::{JobRequests, ObjectMarks, PartsMut, Sets, SetsMut, union_of};
 
 // Puts the object into the set.
+#[tactic(auto, using(crate::proofs::Elements::changed), unfolding(state::specs::State::mark))]
 fn mark_object(marks: &mut ObjectMarks, object: u8)
     requires { (1 ≤ object) × (object ≤ most_objects) }
     ensures { marks.new ≡ mark object marks.old }
@@ -20,46 +22,40 @@ fn mark_object(marks: &mut ObjectMarks, object: u8)
 }
 
 // Gives the rank its lock on the object, and ends its wait; a write lock replaces its read lock, a certify lock its write lock.
-pub fn grant(
-    readers: SetsMut,
-    writers: SetsMut,
-    certified: &mut ObjectMarks,
-    request: &mut JobRequests,
-    mode: u8,
-    rank: u8,
-    object: u8,
-)
+pub fn grant(state: &mut PartsMut, mode: u8, rank: u8, object: u8)
     requires { (1 ≤ rank) × (rank ≤ most_jobs) × (1 ≤ object) × (object ≤ most_objects) }
-    ensures { (readers.exit.now ≡ grant_readers mode rank object readers.entry.now)
-        × (writers.exit.now ≡ grant_writers mode rank object writers.entry.now)
-        × (certified.new ≡ grant_marks mode object certified.old)
-        × (request.new ≡ put request.old rank 0) }
+    ensures next { state_in_mut state.new ≡ with_locks (state_in_mut state.old)
+        state.old.active.now state.old.unlocked.now state.old.sleeping.now state.old.holder.now
+        (grant_readers mode rank object state.old.readers.now) (grant_writers mode rank object state.old.writers.now)
+        (grant_marks mode object state.old.certified.now) (put state.old.request.now rank 0) }
+    ensures same { SamePlaces state.old state.new }
 {
     let i = (object - 1) as usize;
-    let j = (rank - 1) as usize;
-    let reading = readers[i];
-    request[j] = 0;
+    let reading = state.readers[i];
+    store_request(state.request, rank, 0);
     if mode == 1 {
-        readers[i] = ranks::with(reading, rank);
+        state.readers[i] = ranks::with(reading, rank);
     } else {
-        let writing = writers[i];
-        readers[i] = ranks::without(reading, rank);
-        writers[i] = ranks::with(writing, rank);
+        let writing = state.writers[i];
+        state.readers[i] = ranks::without(reading, rank);
+        state.writers[i] = ranks::with(writing, rank);
         if mode == 3 {
-            mark_object(certified, object);
+            mark_object(state.certified, object);
         }
     }
 }
 
 // Takes the rank's read lock on the object away, and marks the rank as one that has unlocked.
-pub fn release(unlocked: &mut RankSet, readers: SetsMut, rank: u8, object: u8)
+pub fn release(state: &mut PartsMut, rank: u8, object: u8)
     requires { (1 ≤ rank) × (rank ≤ most_jobs) × (1 ≤ object) × (object ≤ most_objects) }
-    ensures { (unlocked.new ≡ R.with unlocked.old rank)
-        × (readers.exit.now ≡ release_readers rank object readers.entry.now) }
+    ensures next { state_in_mut state.new ≡ with_locks (state_in_mut state.old)
+        state.old.active.now (R.with state.old.unlocked.now rank) state.old.sleeping.now state.old.holder.now
+        (release_readers rank object state.old.readers.now) state.old.writers.now state.old.certified.now state.old.request.now }
+    ensures same { SamePlaces state.old state.new }
 {
     let i = (object - 1) as usize;
-    *unlocked = ranks::with(*unlocked, rank);
-    readers[i] = ranks::without(readers[i], rank);
+    *state.unlocked = ranks::with(*state.unlocked, rank);
+    state.readers[i] = ranks::without(state.readers[i], rank);
 }
 
 // Takes the rank out of every set. The ranks that are left in them, all together.
@@ -68,12 +64,9 @@ pub fn release_sets(sets: SetsMut, rank: u8) -> RankSet
     ensures { (sets.exit.now ≡ release_sets rank sets.entry.now) × (result ≡ R.unions most_objects (λ o. R.without (at sets.entry.now o) rank)) }
 {
     let mut left = ranks::EMPTY;
-    let mut i: usize = 0;
-    while i < 128 {
-        let kept = ranks::without(sets[i], rank);
-        sets[i] = kept;
-        left = ranks::union(left, kept);
-        i += 1;
+    for set in sets.iter_mut() {
+        *set = ranks::without(*set, rank);
+        left = ranks::union(left, *set);
     }
     left
 }
@@ -86,6 +79,7 @@ pub fn holder_of<'a>(readers: Sets<'a>, writers: Sets<'a>) -> u8
 }
 
 // What is left of a word of a set of objects, whose places stand behind an index, without the objects that the rank writes.
+#[tactic(auto, using(ranks::specs::RankLaws::first_there, ranks::specs::RankLaws::first_pos))]
 fn kept_in(writers: Sets, word: u64, from: usize, rank: u8) -> u64
     requires { (from + 64 ≤ most_objects) × (1 ≤ rank) × (rank ≤ most_jobs) }
     ensures { result ≡ kept_in rank writers.entry.now from 64 word }
@@ -104,6 +98,7 @@ fn kept_in(writers: Sets, word: u64, from: usize, rank: u8) -> u64
 }
 
 // Takes the objects that the rank writes out of the set.
+#[tactic(auto, unfolding(state::specs::State::drop_marks))]
 pub fn drop_marks(marks: &mut ObjectMarks, writers: Sets, rank: u8)
     requires { (1 ≤ rank) × (rank ≤ most_jobs) }
     ensures { marks.new ≡ drop_marks rank writers.entry.now marks.old }

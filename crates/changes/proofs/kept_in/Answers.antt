@@ -7,28 +7,10 @@ use native.Mathlib.Omega.{arith}
 use borrow.Author.Tests.{eqb-true}
 use Rattle.basics.specs.Arrays.{at}
 use Rattle.ranks.specs.Ranks.{member, without, first}
-use Rattle.ranks.specs.RankLaws.{first_pos, first-le, first_there, first-without}
+use Rattle.ranks.specs.RankLaws.{first-le, first_there, first-without}
 use Rattle.changes.proofs.Dropping.{Kept, one_dropped, one_kept, none_left}
 use Rattle.changes.proofs.kept_in.Goals as goal
 use Rattle.changes.proofs.kept_in.Goals.{then-contains, else-contains}
-
-pub overflow_sub-i : goal.overflow_sub-i
-overflow_sub-i c = omega (arith, c.first-place.ensures, first_pos 64 c.loop-place.rest)
-
-pub bounds-writers-i : goal.bounds-writers-i
-bounds-writers-i c =
-    let f = first_there 64 c.loop-place.rest (sym c.is_empty.ensures ∙ c.loop-place-test.true) c.loop-place.invariant.rest_small in
-    omega (arith, c.first-place.ensures, f.0, f.1, c.requires)
-
-pub without-kept-requires : goal.without-kept-requires
-without-kept-requires c =
-    let f = first_there 64 c.loop-place.rest (sym c.is_empty.ensures ∙ c.loop-place-test.true) c.loop-place.invariant.rest_small in
-    (omega (arith, c.first-place.ensures, f.0), omega (arith, c.first-place.ensures, f.1))
-
-pub without-rest-requires : goal.without-rest-requires
-without-rest-requires c =
-    let f = first_there 64 c.loop-place.rest (sym c.is_empty.ensures ∙ c.loop-place-test.true) c.loop-place.invariant.rest_small in
-    (omega (arith, c.first-place.ensures, f.0), omega (arith, c.first-place.ensures, f.1))
 
 pub loop-place-smaller : goal.loop-place-smaller
 loop-place-smaller c =
