@@ -1,4 +1,4 @@
-// The refusals of events and questions, on the parts of a state.
+// The refusals of events and questions, on the parts of a state. Comments name them by the papers' numbers.
 #![tactic(auto)]
 
 ghost use Rattle.std.specs.Prelude.{◌≡◌, true, not, ◌&&◌, min, ◌+◌, ◌-◌, ◌≤◌, eqb};
