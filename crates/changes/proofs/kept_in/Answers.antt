@@ -7,7 +7,7 @@ use native.Mathlib.Omega.{arith}
 use borrow.Author.Tests.{eqb-true}
 use Rattle.basics.specs.Arrays.{at}
 use Rattle.ranks.specs.Ranks.{member, without, first}
-use Rattle.ranks.specs.RankLaws.{first_pos, first-le, first_there, first-without}
+use Rattle.ranks.specs.RankLaws.{first-le, first_there, first-without}
 use Rattle.changes.proofs.Dropping.{Kept, one_dropped, one_kept, none_left}
 use Rattle.changes.proofs.kept_in.Goals as goal
 use Rattle.changes.proofs.kept_in.Goals.{then-contains, else-contains}
