@@ -46,16 +46,14 @@ pub fn grant(state: &mut PartsMut, mode: u8, rank: u8, object: u8)
 }
 
 // Takes the rank's read lock on the object away, and marks the rank as one that has unlocked.
-pub fn release(state: &mut PartsMut, rank: u8, object: u8)
+pub fn release(unlocked: &mut RankSet, readers: SetsMut, rank: u8, object: u8)
     requires { (1 ≤ rank) × (rank ≤ most_jobs) × (1 ≤ object) × (object ≤ most_objects) }
-    ensures next { state_in_mut state.new ≡ with_locks (state_in_mut state.old)
-        state.old.active.now (R.with state.old.unlocked.now rank) state.old.sleeping.now state.old.holder.now
-        (release_readers rank object state.old.readers.now) state.old.writers.now state.old.certified.now state.old.request.now }
-    ensures same { SamePlaces state.old state.new }
+    ensures { (unlocked.new ≡ R.with unlocked.old rank)
+        × (readers.exit.now ≡ release_readers rank object readers.entry.now) }
 {
     let i = (object - 1) as usize;
-    *state.unlocked = ranks::with(*state.unlocked, rank);
-    state.readers[i] = ranks::without(state.readers[i], rank);
+    *unlocked = ranks::with(*unlocked, rank);
+    readers[i] = ranks::without(readers[i], rank);
 }
 
 // Takes the rank out of every set. The ranks that are left in them, all together.

@@ -13,15 +13,14 @@ use borrow.Author.Tests.{eq-eqb, ne_eqb, ltb-false, le-leb, lt-leb}
 use Rattle.basics.specs.Choice.{between, between_true, inside_between}
 use Rattle.basics.specs.Arrays.{at, put, at-put_same, at-put_other, at_out, length-put}
 use Rattle.ranks.specs.Ranks.{without, union, most_urgent, unions}
-use Rattle.state.specs.declared.Counts.{Counts}
 use Rattle.state.specs.declared.State.{State}
 use Rattle.state.specs.declared.refusal.Refusal.{Refusal}
 use Rattle.state.specs.RefusalNumbers.{number, number_positive}
-use Rattle.state.specs.State.{most_jobs, most_objects, most_urgent_holder, certify, requested_mode, requested_object, grant_readers, grant_writers, release_readers, release_sets, drop_marks, activate, await, grant, release, end_run}
+use Rattle.state.specs.State.{most_jobs, most_objects, most_urgent_holder, certify, requested_mode, requested_object, grant_readers, grant_writers, release_readers, release_sets, activate, await, grant}
 use Rattle.state.specs.Weights.{weight}
 use Rattle.state.specs.Holders.{HolderFacts, granted_holder, end_run_holder}
 use Rattle.state.proofs.Releasing.{release_holder}
-use Rattle.weights.specs.Keys.{Weigh, key_weight, key_holder, key_object, others_key, object_key, lowest_key_by, lowest_key}
+use Rattle.weights.specs.Keys.{Weigh, key_weight, key_holder, key_object, lowest_key_by, lowest_key}
 use Rattle.one_holder.specs.OneHolder.{deciding_key, Decides}
 use Rattle.one_holder.specs.OneHolderLaws.{deciding}
 use Rattle.rule.proofs.ConflictLaws.{above_others}

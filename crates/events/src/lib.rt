@@ -112,7 +112,12 @@ fn wake(state: &mut PartsMut) -> Answer
     let rank = rule::wakeable(&state.read());
     if rank != 0 {
         let asked = state.request[(rank - 1) as usize];
-        grant(state, mode_of_request(asked), rank, object_of_request(asked));
+        grant(
+            state,
+            mode_of_request(asked),
+            rank,
+            object_of_request(asked),
+        );
         *state.holder = rank;
     }
     Answer::Done(rank)
@@ -166,10 +171,11 @@ fn sleep_or_awaken(state: &mut PartsMut, kind: u8, rank: u8, object: u8) -> Resu
     ensures same { SamePlaces state.old state.new }
 {
     sleep_refusal(&state.read(), kind, rank, object)?;
+    let asleep = *state.sleeping;
     if kind == 8 {
-        *state.sleeping = ranks::with(*state.sleeping, rank);
+        *state.sleeping = ranks::with(asleep, rank);
     } else {
-        *state.sleeping = ranks::without(*state.sleeping, rank);
+        *state.sleeping = ranks::without(asleep, rank);
     }
     Ok(Answer::Done(0))
 }

@@ -5,7 +5,7 @@ use Rattle.std.specs.Prelude.{Err}
 use Rattle.std.proofs.lemmas.Result.{err_from_is_err_and}
 use Rattle.state.specs.Lent.{state_in, state_in_mut}
 use mathlib.Core.Logic.{inl, inr}
-use Prim.Native.Nat.{ℕ, ◌≤◌}
+use Prim.Native.Nat.{◌≤◌}
 use Rattle.state.specs.declared.State.{State}
 use Rattle.state.specs.State.{most_jobs, with_locks, release}
 use Rattle.state.specs.Holders.{HolderFacts, release_holders}
