@@ -55,9 +55,9 @@ unlocked_in_order none mr mw rd wr e =
 
 -- ---- a block of objects more, behind the first i
 
-module _ (s : State) (i : ℕ) where
+module _ (s : State) (none : Bool) (i : ℕ) where
   abbrev order : ℕ → Bool
-  order = object_in_order s (eqb s.counts.version 1)
+  order = object_in_order s none
 
   -- the locks of the block
   abbrev pub block_locks : ℕ
@@ -82,7 +82,7 @@ module _ (s : State) (i : ℕ) where
       all = sym (unions_empty block_size (λ k. holders_any s (i + k))) ∙ ap is_empty (sym block_each) ∙ eq-eqb block_locks 0 no_lock
 
       in_order : (k : ℕ) → 1 ≤ k → k ≤ block_size → order (i + k) ≡ true
-      in_order k a b = unlocked_in_order (eqb s.counts.version 1) (at s.may_read (i + k)) (at s.may_write (i + k)) (at s.readers (i + k)) (at s.writers (i + k))
+      in_order k a b = unlocked_in_order none (at s.may_read (i + k)) (at s.may_write (i + k)) (at s.readers (i + k)) (at s.writers (i + k))
           (every-at block_size (λ k. is_empty (holders_any s (i + k))) k all a b)
 
 -- ---- what the clauses ask of one object
@@ -167,7 +167,7 @@ bad_counts s e = not_well (well_formed s) refl
 -- ---- all objects
 
 module _ (s : State) (counts : counts_fit s ≡ true) (version : version_fits s ≡ true) (seen : Survey) (outside : ℕ)
-    (S : Surveyed s seen) (O : outside ≡ unions (most_objects - s.counts.objects) (λ k. all_of s (s.counts.objects + k))) where
+    (S : Surveyed s (eqb s.counts.version 1) seen) (O : outside ≡ unions (most_objects - s.counts.objects) (λ k. all_of s (s.counts.objects + k))) where
   -- how many objects are looked at in blocks
   abbrev n : ℕ
   n = in_blocks s.counts.objects

@@ -38,10 +38,10 @@ abbrev pub all_of : State → ℕ → ℕ
 all_of s o = union (declared_any s o) (holders_any s o)
 
 -- the objects of the table together, in which write locks share with none or may be shared; their locks in whole blocks
-pub record Surveyed (s : State) (seen : Survey) : Type 0 where
+pub record Surveyed (s : State) (none : Bool) (seen : Survey) : Type 0 where
   pub declared : seen.declared ≡ unions s.counts.objects (declared_any s)
   pub held : seen.held ≡ unions (in_blocks s.counts.objects) (holders_any s)
-  pub wrong : is_empty seen.wrong ≡ every (in_blocks s.counts.objects) (object_in_order s (eqb s.counts.version 1))
+  pub wrong : is_empty seen.wrong ≡ every (in_blocks s.counts.objects) (object_in_order s none)
 
 -- an object with these readers and writers may be certified: it is written, and not read
 abbrev pub certifiable : ℕ → ℕ → Bool

@@ -50,7 +50,7 @@ fn apart_wrong<const ALONE: bool>(readers: RankSet, writers: RankSet) -> RankSet
 }
 
 // Empty if each object of the block from an index on is in order, where write locks are alone or may be shared.
-fn block_wrong_by<const ALONE: bool>(parts: &Parts, from: usize) -> RankSet
+fn block_wrong<const ALONE: bool>(parts: &Parts, from: usize) -> RankSet
     requires { from + block_size ≤ most_objects }
     ensures { is_empty result ≡ every block_size (λ k. object_in_order (state_in parts.now) ALONE (from + k)) }
 {
@@ -65,22 +65,11 @@ fn block_wrong_by<const ALONE: bool>(parts: &Parts, from: usize) -> RankSet
     wrong
 }
 
-// The same, by the table's version.
-fn block_wrong(parts: &Parts, from: usize) -> RankSet
-    requires { from + block_size ≤ most_objects }
-    ensures { is_empty result ≡ every block_size (λ k. object_in_order (state_in parts.now) (eqb parts.now.counts.version 1) (from + k)) }
-{
-    if parts.counts.version == 1 {
-        block_wrong_by::<true>(parts, from)
-    } else {
-        block_wrong_by::<false>(parts, from)
-    }
-}
-
-// What the objects of a table say together. Locks are looked at in whole blocks, and one by one only where a block has some.
-pub fn survey_objects(parts: &Parts) -> Survey
+// What the objects of the table say together, where write locks are alone or may be shared. Locks are looked at in whole blocks, and one by one only where a
+// block has some.
+fn survey_by<const ALONE: bool>(parts: &Parts) -> Survey
     requires { parts.now.counts.objects ≤ most_objects }
-    ensures { Surveyed (state_in parts.now) result }
+    ensures { Surveyed (state_in parts.now) ALONE result }
 {
     let count = parts.counts.objects as usize;
     let declared = union(
@@ -97,13 +86,25 @@ pub fn survey_objects(parts: &Parts) -> Survey
         );
         if !ranks::is_empty(locks) {
             held = union(held, locks);
-            wrong = union(wrong, block_wrong(parts, from));
+            wrong = union(wrong, block_wrong::<ALONE>(parts, from));
         }
     }
     Survey {
         declared,
         held,
         wrong,
+    }
+}
+
+// The same by the table's version: in version 1 write locks are alone.
+pub fn survey_objects(parts: &Parts) -> Survey
+    requires { parts.now.counts.objects ≤ most_objects }
+    ensures { Surveyed (state_in parts.now) (eqb parts.now.counts.version 1) result }
+{
+    if parts.counts.version == 1 {
+        survey_by::<true>(parts)
+    } else {
+        survey_by::<false>(parts)
     }
 }
 

@@ -1,4 +1,4 @@
--- `well_formed::block_wrong_by` meets its contract. The loop's invariant: the set is empty if and only if the first k objects of the block are in order;
+-- `well_formed::block_wrong` meets its contract. The loop's invariant: the set is empty if and only if the first k objects of the block are in order;
 -- a turn joins what is wrong with one more.
 -- Assumes nothing.
 use Prim.Native.Nat.{suc, ◌+◌}
@@ -11,7 +11,7 @@ use Rattle.ranks.specs.Ranks.{is_empty}
 use Rattle.ranks.specs.UnionLaws.{empty_union}
 use Rattle.state.specs.Lent.{state_in}
 use Rattle.well_formed.specs.Survey.{object_in_order}
-use Rattle.well_formed.proofs.locks.block_wrong_by.Goals as goal
+use Rattle.well_formed.proofs.locks.block_wrong.Goals as goal
 
 pub loop-k-init : goal.loop-k-init
 unfolding every
