@@ -4,14 +4,12 @@
 -- Assumes nothing.
 use mathlib.Core.Path.{◌≡◌, refl, sym, ap, ap₂, ◌∙◌}
 use mathlib.Core.Bool.{Bool, true, false, not, ◌&&◌, ◌||◌}
-use mathlib.Core.List.{List}
 use Prim.Native.Nat.{ℕ, ◌+◌, ◌^◌, ◌≤◌, ◌<◌, min}
 use native.Mathlib.Omega.{arith}
 use native.Mathlib.Decide.{dec_le}
-use lib.Dec.{eqb, ltb}
+use lib.Dec.{ltb}
 use lib.Bits.{bit_and, and_zero_l, and_zero_r}
 use borrow.Author.Tests.{eqb-true, eq-eqb, ltb-true, ltb-false, lt-ltb, le-ltb, not-true}
-use Rattle.std.specs.Prelude.{if◌then◌else◌}
 use Rattle.basics.specs.Choice.{same_test, and_true, and_left, and_right}
 use Rattle.basics.specs.Loops.{every, every-at, every_true, every-and, every_split}
 use Rattle.basics.specs.Arrays.{at}
@@ -20,10 +18,11 @@ use Rattle.ranks.specs.RankLaws.{member_pos, member-le, member-minus, disjoint-m
 use Rattle.ranks.specs.UnionLaws.{below_power, union_left, union_right, le-union, empty_union, in_unions}
 use Rattle.ranks.specs.FirstLaws.{member-before, but_first_later, later_but_first}
 use Rattle.state.specs.declared.State.{State}
-use Rattle.state.specs.State.{most_objects, read, write, marked, holders, holders_any, all_holders, is_holder, shares_with_none}
-use Rattle.state.specs.Weights.{weight, ceiling_of, write_ceiling_of, absolute_ceiling_of}
+use Rattle.state.specs.State.{most_objects, read, write, holders, holders_any, all_holders, is_holder, shares_with_none}
+use Rattle.state.specs.Weights.{weight, ceiling_of, write_ceiling_of}
 use Rattle.state.specs.WellFormed.{above_lock, above_locks, in_order, holders_in_order}
-use Rattle.well_formed.specs.Survey.{block_size, reached, only_first, weighing_of, readers_ordered, writers_ordered, object_ordered}
+use Rattle.state.specs.WeightLaws.{weighing_of, weighing_ceiling}
+use Rattle.well_formed.specs.Survey.{block_size, reached, only_first, readers_ordered, writers_ordered, object_ordered}
 
 -- ---- where no holder has to be looked at
 
@@ -44,10 +43,10 @@ first_alone held declared locked d =
     (λ r l m later. disjoint-member locked (but_first held) r d m (reached_later held declared r later))
 
 -- any object where there is one holder
-pub one_holder : (held version : ℕ) (mr mw rd wr marks : List ℕ) (o : ℕ) → is_empty (but_first held) ≡ true → object_ordered held version mr mw rd wr marks o ≡ true
-one_holder held version mr mw rd wr marks o e =
-    and_true (readers_ordered held mw rd o) (writers_ordered held version mr mw wr marks o) (lock (at mw o) (at rd o))
-    (lock (weighing_of (eqb version 1 || marked marks o) (at mr o) (at mw o)) (at wr o))
+pub one_holder : (held : ℕ) (s : State) (o : ℕ) → is_empty (but_first held) ≡ true → object_ordered held s o ≡ true
+one_holder held s o e =
+    and_true (readers_ordered held s o) (writers_ordered held s o) (lock (at s.may_write o) (at s.readers o))
+    (lock (weighing_of (shares_with_none s o) (at s.may_read o) (at s.may_write o)) (at s.writers o))
   where
     lock : (declared locked : ℕ) → only_first held declared locked ≡ true
     lock declared locked = first_alone held declared locked (eq-eqb (bit_and locked (but_first held)) 0 (ap (bit_and locked) (eqb-true (but_first held) 0 e) ∙ and_zero_r locked))
@@ -147,11 +146,7 @@ module _ (s : State) (few : s.counts.jobs ≤ word_bits) (small : all_holders s.
 
   write_weighs : (o a b : ℕ) → a ≤ s.counts.jobs → a < b → ltb a (weight s write b o) ≡ ltb a (first word_bits (writing o))
   unfolding weight
-  write_weighs o a b l h = ap (ltb a) (go (shares_with_none s o)) ∙ below_ceiling (writing o) a l
-    where
-      go : (t : Bool) → (if t then absolute_ceiling_of s o else write_ceiling_of s o) ≡ ceiling_of s.counts (weighing_of t (at s.may_read o) (at s.may_write o))
-      go true = refl
-      go false = refl
+  write_weighs o a b l h = ap (ltb a) (sym (weighing_ceiling s.counts (shares_with_none s o) (at s.may_read o) (at s.may_write o))) ∙ below_ceiling (writing o) a l
 
   -- whoever holds a lock on an object is among the holders
   among : (o r : ℕ) → 1 ≤ o → o ≤ most_objects → member (holders_any s o) r ≡ true → is_holder s r ≡ true
@@ -203,7 +198,7 @@ module _ (s : State) (few : s.counts.jobs ≤ word_bits) (small : all_holders s.
   -- the objects looked at: the table's, and maybe more
   module _ (n : ℕ) (all : s.counts.objects ≤ n) (most : n ≤ most_objects) where
     abbrev ordered : ℕ → Bool
-    ordered = object_ordered held s.counts.version s.may_read s.may_write s.readers s.writers s.certified
+    ordered = object_ordered held s
 
     abbrev pair : ℕ → ℕ → Bool
     pair a b = is_holder s a && is_holder s b && ltb a b

@@ -4,21 +4,22 @@
 use mathlib.Core.Path.{◌≡◌, refl, sym, ap, ap₂, ◌∙◌}
 use mathlib.Core.Logic.{◌≢◌}
 use mathlib.Core.Bool.{Bool, true, false, not, ◌&&◌, ◌||◌}
-use Prim.Native.Nat.{ℕ, suc, ◌+◌, ◌-◌, ◌≤◌}
+use Prim.Native.Nat.{ℕ, ◌+◌, ◌-◌, ◌≤◌}
 use native.Mathlib.Omega.{arith}
 use lib.ListN.{get_or}
-use borrow.Author.Tests.{eq-eqb, ne_eqb}
+use lib.Dec.{eqb}
+use borrow.Author.Tests.{eqb-true, eq-eqb, ne_eqb}
 use Rattle.std.specs.Prelude.{if◌then◌else◌}
-use Rattle.basics.specs.Choice.{between}
-use Rattle.basics.specs.Arrays.{at, at_index}
-use Rattle.basics.specs.Loops.{every, every_same, every-and}
+use Rattle.basics.specs.Choice.{between, clash}
+use Rattle.basics.specs.Arrays.{at, at_index, at_next}
+use Rattle.basics.specs.Loops.{every, every-at, every_true, every_same, every-and}
 use Rattle.state.specs.declared.State.{State}
 use Rattle.ranks.specs.Ranks.{member, union}
 use Rattle.ranks.specs.UnionLaws.{member_union}
 use Rattle.state.specs.State.{most_jobs, certify, of_mode, strongest, is_certified, is_object, is_active, has_unlocked, is_sleeping, is_waiting, may_lock, holds_already}
-use Rattle.state.specs.State.{request_of, mode_of_request, object_of_request, requested_mode, requested_object, with_locks}
+use Rattle.state.specs.State.{request_of, mode_of_request, object_of_request, requested_mode, requested_object}
 use Rattle.state.specs.WellFormed.{holds_before, may_await, wait_fits, waits_fit, waits_awake}
-use Rattle.well_formed.specs.Survey.{may_ask}
+use Rattle.well_formed.specs.Survey.{may_ask, with_marked}
 
 -- ---- what a rank may ask for, by its right, its own lock in that mode, its write lock and the object's mark
 
@@ -75,25 +76,32 @@ may_await_is s m r o h e =
 pub wait_none : (s : State) (r : ℕ) → request_of s r ≡ 0 → wait_fits s r ≡ true
 wait_none s r e = simp (eq-eqb (request_of s r) 0 e)
 
-pub wait_asks : (s : State) (r : ℕ) → request_of s r ≢ 0 → wait_fits s r ≡ may_await s (requested_mode s r) r (requested_object s r)
-wait_asks s r d = ap (λ (b : Bool). not (not b) || may_await s (requested_mode s r) r (requested_object s r)) (ne_eqb (request_of s r) 0 d)
+-- the job whose request stands at index i
+pub wait_asks : (s : State) (i : ℕ) → let asked = get_or s.request i 0 in
+    asked ≢ 0 → may_await s (mode_of_request asked) (i + 1) (object_of_request asked) ≡ wait_fits s (i + 1)
+wait_asks s i d =
+    let asks : ℕ → Bool = λ asked. may_await s (mode_of_request asked) (i + 1) (object_of_request asked) in
+    let asked = get_or s.request i 0 in
+    ap (λ (b : Bool). not (not b) || asks asked) (sym (ne_eqb asked 0 d)) ∙ ap (λ (q : ℕ). not (not (eqb q 0)) || asks q) (sym (at_next s.request i))
 
--- what was found of the next job, behind the first k of those from an index on
-pub wait_found : (s : State) (from k : ℕ) (b : Bool) → request_of s (suc (from + k)) ≢ 0
-    → b ≡ may_await s (mode_of_request (request_of s (suc (from + k)))) (from + (k + 1)) (object_of_request (request_of s (suc (from + k))))
-    → wait_fits s (from + (k + 1)) ≡ b
-wait_found s from k b d e =
-    let next : suc (from + k) ≡ from + (k + 1) = omega arith in
-    let q = request_of s (suc (from + k)) in
-    ap (wait_fits s) (sym next) ∙ wait_asks s (suc (from + k)) d ∙ ap (λ (r : ℕ). may_await s (mode_of_request q) r (object_of_request q)) next ∙ sym e
+-- none of so many jobs, from an index on, waits
+pub none_wait : (s : State) (n from : ℕ) → every n (λ j. eqb (request_of s (from + j)) 0) ≡ true → every n (λ j. wait_fits s (from + j)) ≡ true
+none_wait s n from e =
+    every_true n (λ j. wait_fits s (from + j)) (λ j a b.
+    wait_none s (from + j) (eqb-true (request_of s (from + j)) 0 (every-at n (λ j. eqb (request_of s (from + j)) 0) j e a b)))
 
-pub wait_not : (s : State) (from k : ℕ) → request_of s (suc (from + k)) ≡ 0 → wait_fits s (from + (k + 1)) ≡ true
-wait_not s from k e = let next : suc (from + k) ≡ from + (k + 1) = omega arith in ap (wait_fits s) (sym next) ∙ wait_none s (suc (from + k)) e
+-- some of n, from an index on, fail
+pub part_fails : (m from n : ℕ) (p : ℕ → Bool) → from + n ≤ m → every n (λ k. p (from + k)) ≡ false → every m p ≡ false
+part_fails m from n p h fails = go (every m p) refl
+  where
+    go : (b : Bool) → every m p ≡ b → b ≡ false
+    go true e = absurd (clash (every_true n (λ k. p (from + k)) (λ k a b. every-at m p (from + k) e (omega arith) (omega arith))) fails)
+    go false e = refl
 
 -- ---- those that have unlocked and those that sleep, together: a waiting job is none of them
 
 abbrev pub marks_joined : State → State
-marks_joined s = with_locks s s.active (union s.unlocked s.sleeping) 0 s.holder s.readers s.writers s.certified s.request
+marks_joined s = with_marked s (union s.unlocked s.sleeping)
 
 pub waits_joined : (s : State) → waits_fit (marks_joined s) ≡ waits_fit s && every most_jobs (waits_awake s)
 unfolding waits_fit

@@ -1,37 +1,24 @@
 // What refusal 8 asks of the jobs: their processors, and what they wait for.
-ghost use Rattle.std.specs.Prelude.{◌≡◌, [], ◌+◌, ◌≤◌, max};
+ghost use Rattle.std.specs.Prelude.{◌≡◌, ◌+◌, ◌≤◌, ◌<◌};
 ghost use Rattle.basics.specs.Loops.{every};
-ghost use Rattle.state.specs.State.{most_jobs, most_objects, state_of};
+ghost use Rattle.state.specs.State.{most_jobs, most_objects, mode_of_request, object_of_request};
+ghost use Rattle.state.specs.Lent.{state_in};
 ghost use Rattle.state.specs.WellFormed.{processors_fit, may_await, wait_fits, waits_fit};
-ghost use Rattle.state.specs.State.{mode_of_request, object_of_request};
-ghost use Rattle.well_formed.specs.Survey.{may_ask};
+ghost use Rattle.well_formed.specs.Survey.{may_ask, with_marked};
 
 use ranks::RankSet;
-use state::{
-    Counts, JobProcessors, JobRequests, ObjectMarks, Sets, is_marked, none_waits, of_mode, within,
-};
-
-// The larger of two numbers.
-fn larger(a: u8, b: u8) -> u8
-    ensures { result ≡ max a b }
-{
-    if a < b { b } else { a }
-}
+use state::{Parts, is_marked, none_waits, of_mode, within};
 
 // Whether each job's processor is one of the table's.
-pub fn processors_fit(counts: Counts, processor_of: &JobProcessors) -> bool
-    requires { (1 ≤ counts.processors) × (counts.jobs ≤ most_jobs) }
-    ensures { result ≡ processors_fit (state_of counts processor_of.now [] [] 0 0 0 0 [] [] [] []) }
+pub fn processors_fit(parts: &Parts) -> bool
+    requires { (1 ≤ parts.now.counts.processors) × (parts.now.counts.jobs ≤ most_jobs) }
+    ensures { result ≡ processors_fit (state_in parts.now) }
 {
-    let processors = counts.processors;
-    let count = counts.jobs as usize;
-    let mut last = 0;
-    let mut i: usize = 0;
-    while i < count {
-        last = larger(last, processor_of[i]);
-        i += 1;
+    let mut last: u8 = 0;
+    for i in 0..parts.counts.jobs as usize {
+        last = last.max(parts.processor_of[i]);
     }
-    last < processors
+    last < parts.counts.processors
 }
 
 // Whether a rank may ask for an object with these sets in a mode: it has the right, neither that lock nor the write lock, and to certify the write lock alone.
@@ -55,113 +42,68 @@ fn may_ask(
     right & !(ranks::contains(of_mode(mode, readers, writers), rank) | written)
 }
 
-// Whether a rank may be waiting for the request: a lock of one of the version's modes on an object of the table that it may ask for, in a run without an
-// unlock.
-fn may_await<'a>(
-    counts: Counts,
-    may_read: Sets<'a>,
-    may_write: Sets<'a>,
-    active: RankSet,
-    unlocked: RankSet,
-    readers: Sets<'a>,
-    writers: Sets<'a>,
-    certified: &'a ObjectMarks,
-    request: u16,
-    rank: u8,
-) -> bool
-    requires { (counts.version ≤ 2) × (counts.objects ≤ most_objects) × (1 ≤ rank) × (rank ≤ most_jobs) }
-    ensures { result ≡ may_await (state_of counts [] may_read.entry.now may_write.entry.now active unlocked 0 0 readers.entry.now writers.entry.now certified.now [])
-        (mode_of_request request) rank (object_of_request request) }
+// Whether a rank may be waiting for the request: a lock of one of the version's modes on an object of the table that it may ask for, in a run that is not among
+// those marked.
+fn may_await(parts: &Parts, marked: RankSet, request: u16, rank: u8) -> bool
+    requires { (parts.now.counts.version ≤ 2) × (parts.now.counts.objects ≤ most_objects) × (1 ≤ rank) × (rank ≤ most_jobs) }
+    ensures { result ≡ may_await (with_marked (state_in parts.now) marked) (mode_of_request request) rank (object_of_request request) }
 {
     let mode = (request / 256) as u8;
     let object = (request % 256) as u8;
-    if !(within(1, counts.version + 1, mode) & within(1, counts.objects, object)) {
+    if !(within(1, parts.counts.version + 1, mode) & within(1, parts.counts.objects, object)) {
         return false;
     }
     let i = (object - 1) as usize;
-    ranks::contains(active, rank)
-        & !ranks::contains(unlocked, rank)
+    ranks::contains(parts.active, rank)
+        & !ranks::contains(marked, rank)
         & may_ask(
             mode,
             rank,
-            may_read[i],
-            may_write[i],
-            readers[i],
-            writers[i],
-            is_marked(certified, object),
+            parts.may_read[i],
+            parts.may_write[i],
+            parts.readers[i],
+            parts.writers[i],
+            is_marked(parts.certified, object),
         )
 }
 
-// Whether each of the four jobs from an index on may be waiting for its request, if it has one.
-fn four_fit<'a>(
-    counts: Counts,
-    may_read: Sets<'a>,
-    may_write: Sets<'a>,
-    active: RankSet,
-    unlocked: RankSet,
-    readers: Sets<'a>,
-    writers: Sets<'a>,
-    certified: &'a ObjectMarks,
-    request: &'a JobRequests,
-    from: usize,
-) -> bool
-    requires { (counts.version ≤ 2) × (counts.objects ≤ most_objects) × (from + 4 ≤ most_jobs) }
-    ensures { result ≡ every 4 (λ k. wait_fits (state_of counts [] may_read.entry.now may_write.entry.now active unlocked 0 0 readers.entry.now writers.entry.now certified.now request.now) (from + k)) }
+// Whether the job at an index may be waiting for its request, if it has one.
+fn wait_fits(parts: &Parts, marked: RankSet, index: usize) -> bool
+    requires { (parts.now.counts.version ≤ 2) × (parts.now.counts.objects ≤ most_objects) × (index < most_jobs) }
+    ensures { result ≡ wait_fits (with_marked (state_in parts.now) marked) (index + 1) }
 {
-    if none_waits(request, from, 4) {
+    let asked = parts.request[index];
+    asked == 0 || may_await(parts, marked, asked, (index + 1) as u8)
+}
+
+// Whether each of the four jobs from an index on may be waiting for its request, if it has one.
+fn four_fit(parts: &Parts, marked: RankSet, from: usize) -> bool
+    requires { (parts.now.counts.version ≤ 2) × (parts.now.counts.objects ≤ most_objects) × (from + 4 ≤ most_jobs) }
+    ensures { result ≡ every 4 (λ k. wait_fits (with_marked (state_in parts.now) marked) (from + k)) }
+{
+    if none_waits(parts.request, from, 4) {
         return true;
     }
-    let mut k = 0;
-    while k < 4 {
-        let asked = request[from + k];
-        k += 1;
-        if asked != 0 {
-            if !may_await(
-                counts,
-                may_read,
-                may_write,
-                active,
-                unlocked,
-                readers,
-                writers,
-                certified,
-                asked,
-                (from + k) as u8,
-            ) {
-                return false;
-            }
+    for k in 0..4 {
+        if !wait_fits(parts, marked, from + k) {
+            return false;
         }
     }
     true
 }
 
-// Whether each waiting job may be waiting for its request.
-pub fn waits_fit<'a>(
-    counts: Counts,
-    may_read: Sets<'a>,
-    may_write: Sets<'a>,
-    active: RankSet,
-    unlocked: RankSet,
-    readers: Sets<'a>,
-    writers: Sets<'a>,
-    certified: &'a ObjectMarks,
-    request: &'a JobRequests,
-) -> bool
-    requires { (counts.version ≤ 2) × (counts.objects ≤ most_objects) }
-    ensures { result ≡ waits_fit (state_of counts [] may_read.entry.now may_write.entry.now active unlocked 0 0 readers.entry.now writers.entry.now certified.now request.now) }
+// Whether each waiting job may be waiting for its request, and is not among those marked.
+pub fn waits_fit(parts: &Parts, marked: RankSet) -> bool
+    requires { (parts.now.counts.version ≤ 2) × (parts.now.counts.objects ≤ most_objects) }
+    ensures { result ≡ waits_fit (with_marked (state_in parts.now) marked) }
 {
-    if none_waits(request, 0, 64) {
+    if none_waits(parts.request, 0, 64) {
         return true;
     }
-    let mut from = 0;
-    while from < 64 {
-        if !four_fit(
-            counts, may_read, may_write, active, unlocked, readers, writers, certified, request,
-            from,
-        ) {
+    for four in 0..16 {
+        if !four_fit(parts, marked, four * 4) {
             return false;
         }
-        from += 4;
     }
     true
 }

@@ -2,7 +2,8 @@
 #![tactic(auto)]
 
 ghost use Rattle.std.specs.Prelude.{◌≡◌, ◌&&◌, eqb, length};
-ghost use Rattle.state.specs.State.{most_jobs, most_objects, mark_words, state_of};
+ghost use Rattle.state.specs.State.{most_jobs, most_objects, mark_words};
+ghost use Rattle.state.specs.Lent.{state_in};
 ghost use Rattle.state.specs.WellFormed.{well_formed};
 ghost use Rattle.state.specs.Facts.{Sized};
 
@@ -16,58 +17,32 @@ use locks::{survey_objects, union_outside};
 use marks::certified_well;
 use order::holders_in_order;
 use ranks::RankSet;
-use state::{
-    Counts, JobProcessors, JobRequests, ObjectMarks, Sets, State, counts_within, is_version,
-};
+use state::{Parts, State, counts_within, is_version};
 
 // Whether the state with these parts is well formed. Who has unlocked and who sleeps are looked at together: they are active and wait for nothing.
 // The order of the holders is looked at in a second pass, and only where there are two.
-pub fn fits<'a>(
-    counts: Counts,
-    processor_of: &'a JobProcessors,
-    may_read: Sets<'a>,
-    may_write: Sets<'a>,
-    active: RankSet,
-    unlocked: RankSet,
-    sleeping: RankSet,
-    holder: u8,
-    readers: Sets<'a>,
-    writers: Sets<'a>,
-    certified: &'a ObjectMarks,
-    request: &'a JobRequests,
-) -> bool
-    ensures { result ≡ well_formed (state_of counts processor_of.now may_read.entry.now may_write.entry.now
-        active unlocked sleeping holder readers.entry.now writers.entry.now certified.now request.now) }
+pub fn fits(parts: &Parts) -> bool
+    ensures { result ≡ well_formed (state_in parts.now) }
 {
+    let counts = parts.counts;
     if !(counts_within(counts) & is_version(counts.version)) {
         return false;
     }
     let all = ranks::up_to(counts.jobs);
-    let marked = ranks::union(unlocked, sleeping);
-    let outside = union_outside(may_read, may_write, readers, writers, counts.objects);
-    let seen = survey_objects(
-        counts.version == 1,
-        may_read,
-        may_write,
-        readers,
-        writers,
-        counts.objects,
-    );
+    let marked = ranks::union(parts.unlocked, parts.sleeping);
+    let outside = union_outside(parts);
+    let seen = survey_objects(parts);
     ranks::is_empty(seen.wrong)
         & ranks::is_empty(outside)
         & ranks::is_subset(seen.declared, all)
-        & ranks::is_subset(seen.held, active)
-        & ranks::is_subset(active, all)
-        & ranks::is_subset(marked, active)
-        & certified_well(counts.version, readers, writers, certified)
-        & processors_fit(counts, processor_of)
-        & waits_fit(
-            counts, may_read, may_write, active, marked, readers, writers, certified, request,
-        )
-        & (holder == ranks::most_urgent(seen.held))
-        & holders_in_order(
-            counts, may_read, may_write, readers, writers, certified, seen.held,
-        )
+        & ranks::is_subset(seen.held, parts.active)
+        & ranks::is_subset(parts.active, all)
+        & ranks::is_subset(marked, parts.active)
+        & certified_well(parts)
+        & processors_fit(parts)
+        & waits_fit(parts, marked)
+        & (parts.holder == ranks::most_urgent(seen.held))
+        & holders_in_order(parts, seen.held)
 }
 
 // Whether lists have the lengths of a state's arrays.
@@ -94,25 +69,19 @@ fn have_lengths<'a>(
 }
 
 // The same, and that the parts have their lengths, as whatever is lent has: what the laws about the next state ask.
-pub fn fits_sized<'a>(
-    counts: Counts,
-    processor_of: &'a JobProcessors,
-    may_read: Sets<'a>,
-    may_write: Sets<'a>,
-    active: RankSet,
-    unlocked: RankSet,
-    sleeping: RankSet,
-    holder: u8,
-    readers: Sets<'a>,
-    writers: Sets<'a>,
-    certified: &'a ObjectMarks,
-    request: &'a JobRequests,
-) -> bool
-    ensures { (result ≡ well_formed (state_of counts processor_of.now may_read.entry.now may_write.entry.now
-        active unlocked sleeping holder readers.entry.now writers.entry.now certified.now request.now))
-        × Sized (state_of counts processor_of.now may_read.entry.now may_write.entry.now
-        active unlocked sleeping holder readers.entry.now writers.entry.now certified.now request.now) }
+pub fn fits_sized(parts: &Parts) -> bool
+    ensures { (result ≡ well_formed (state_in parts.now)) × Sized (state_in parts.now) }
 {
+    let Parts {
+        processor_of,
+        may_read,
+        may_write,
+        readers,
+        writers,
+        certified,
+        request,
+        ..
+    } = *parts;
     have_lengths(
         processor_of,
         may_read,
@@ -121,38 +90,12 @@ pub fn fits_sized<'a>(
         writers,
         certified,
         request,
-    ) & fits(
-        counts,
-        processor_of,
-        may_read,
-        may_write,
-        active,
-        unlocked,
-        sleeping,
-        holder,
-        readers,
-        writers,
-        certified,
-        request,
-    )
+    ) & fits(parts)
 }
 
 // Whether a state is well formed: what refusal 8 tests. Whatever is handed in, its arrays have their lengths.
 pub fn is_well_formed(state: State) -> bool
     ensures { (result ≡ well_formed state) × Sized state }
 {
-    fits_sized(
-        state.counts,
-        &state.processor_of,
-        &state.may_read,
-        &state.may_write,
-        state.active,
-        state.unlocked,
-        state.sleeping,
-        state.holder,
-        &state.readers,
-        &state.writers,
-        &state.certified,
-        &state.request,
-    )
+    fits_sized(&state.parts())
 }

@@ -1,5 +1,5 @@
 -- `well_formed::processors_fit` meets its contract. The loop's invariant: the largest of the first i processors is one of the table's if and only if each is;
--- a turn takes one more. It ends because what is left of the count falls.
+-- a turn takes one more.
 -- Assumes nothing.
 use Prim.Native.Nat.{ℕ, suc, max}
 use mathlib.Core.Path.{◌≡◌, ap, ◌∙◌}
@@ -11,7 +11,8 @@ use borrow.Author.Tests.{ltb-true, lt-ltb}
 use Rattle.basics.specs.Choice.{same_test, and_true, and_left, and_right}
 use Rattle.basics.specs.Loops.{every}
 use Rattle.basics.specs.Arrays.{at}
-use Rattle.state.specs.WellFormed.{processors_fit}
+use Rattle.state.specs.Lent.{state_in}
+use Rattle.state.specs.WellFormed.{processor_fits, processors_fit}
 use Rattle.well_formed.proofs.jobs.processors_fit.Goals as goal
 
 -- the larger of two numbers is below a bound if and only if both are
@@ -23,18 +24,17 @@ both_below a b n =
 
 pub loop-i-init : goal.loop-i-init
 unfolding every
-loop-i-init c = (omega arith, lt-ltb 0 c.args.counts.processors c.requires.0)
+loop-i-init c = lt-ltb 0 c.args.parts.now.counts.processors c.requires.0
 
 pub loop-i-preserved : goal.loop-i-preserved
 unfolding every
 loop-i-preserved c =
-    let n = c.args.counts.processors in
-    let next = at c.args.processor_of.now (suc c.loop-i.i) in
-    (omega arith, rw add-one (ap (λ (k : ℕ). ltb k n) c.larger-last.ensures ∙ both_below c.loop-i.last next n ∙ ap (λ (b : Bool). b && ltb next n) c.loop-i.invariant.1))
+    let n = c.args.parts.now.counts.processors in
+    let next = at c.args.parts.now.processor_of.now (suc c.loop-i.i) in
+    rw add-one (ap (λ (k : ℕ). ltb k n) c.max-last.ensures ∙ both_below c.loop-i.last next n ∙ ap (λ (b : Bool). b && ltb next n) c.loop-i.invariant)
 
 pub returns : goal.returns
 unfolding processors_fit
 returns c =
-    let a = c.args in
-    let e : c.loop-i.i ≡ a.counts.jobs = omega arith in
-    c.loop-i.invariant.1 ∙ ap (λ (n : ℕ). every n (λ r. ltb (at a.processor_of.now r) a.counts.processors)) e
+    let e : c.loop-i.i ≡ c.args.parts.now.counts.jobs = omega arith in
+    c.loop-i.invariant ∙ ap (λ (n : ℕ). every n (processor_fits (state_in c.args.parts.now))) e

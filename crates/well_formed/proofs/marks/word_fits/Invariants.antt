@@ -3,11 +3,12 @@
 -- Assumes nothing.
 use Prim.Native.Nat.{◌-◌}
 use Rattle.ranks.specs.Ranks.{first}
+use Rattle.state.specs.Lent.{state_in}
 use Rattle.well_formed.proofs.MarkLaws.{Seen}
 use Rattle.well_formed.proofs.marks.word_fits.Given as goal
 
 abbrev pub invariant-loop-place : goal.invariant-loop-place
-invariant-loop-place l = Seen l.readers l.writers l.word l.from l.rest
+invariant-loop-place l = Seen (state_in l.parts) l.word l.from l.rest
 
 abbrev pub decreases-loop-place : goal.decreases-loop-place
 decreases-loop-place l = 65 - first 64 l.rest

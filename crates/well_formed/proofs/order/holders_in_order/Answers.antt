@@ -1,45 +1,38 @@
 -- `well_formed::holders_in_order` meets its contract. One holder is in order with himself. Else the loop's invariant: the set is empty if and only if the
--- first i objects, in whole blocks, are in order; a turn joins a block's readers and writers that are not. It ends because what is left of the objects falls.
+-- first objects, in whole blocks, are in order; a turn joins a block's readers and writers that are not.
 -- Assumes nothing.
-use Prim.Native.Nat.{ℕ}
-use mathlib.Core.Path.{refl, sym, ap, ◌∙◌}
-use mathlib.Core.Bool.{Bool, ◌&&◌}
+use Prim.Native.Nat.{ℕ, ◌+◌, ◌*◌}
+use mathlib.Core.Path.{◌≡◌, refl, sym, ap, ◌∙◌}
 use native.Mathlib.Omega.{arith}
 use Rattle.basics.specs.Loops.{every, every_true}
 use Rattle.ranks.specs.Ranks.{is_empty, union}
-use Rattle.well_formed.specs.Survey.{in_blocks, readers_ordered, writers_ordered}
+use Rattle.state.specs.Lent.{state_in}
+use Rattle.well_formed.specs.Survey.{block_size, blocks, in_blocks, readers_ordered, writers_ordered, object_ordered}
 use Rattle.well_formed.proofs.OrderLaws.{one_holder, ordered_more}
 use Rattle.well_formed.proofs.order.holders_in_order.Goals as goal
-use Rattle.well_formed.proofs.order.holders_in_order.Goals.{Start}
-
--- what is asked of each object: of its readers, of its writers, of both
-abbrev reading : (c : Start) → ℕ → Bool
-reading c = let a = c.args in readers_ordered a.held a.may_write.now a.readers.now
-
-abbrev writing : (c : Start) → ℕ → Bool
-writing c = let a = c.args in writers_ordered a.held a.counts.version a.may_read.now a.may_write.now a.writers.now a.certified.now
-
-abbrev order : (c : Start) → ℕ → Bool
-order c o = reading c o && writing c o
 
 pub returns-then-is_empty : goal.returns-then-is_empty
 returns-then-is_empty c =
-    let a = c.args in
+    let s = state_in c.args.parts.now in
     let one = ap is_empty (sym c.but_first.ensures) ∙ sym c.is_empty.ensures ∙ c.if-is_empty.true in
-    sym (every_true (in_blocks a.counts.objects) (order c.before.before.before)
-    (λ o l h. one_holder a.held a.counts.version a.may_read.now a.may_write.now a.readers.now a.writers.now a.certified.now o one))
+    sym (every_true (in_blocks s.counts.objects) (object_ordered c.args.held s) (λ o l h. one_holder c.args.held s o one))
 
-pub loop-i-init : goal.loop-i-init
+pub loop-block-init : goal.loop-block-init
 unfolding every
-loop-i-init c = (omega arith, omega arith, refl)
+loop-block-init c = refl
 
-pub loop-i-preserved : goal.loop-i-preserved
-loop-i-preserved c =
-    let a = c.args in
-    let inv = c.loop-i.invariant in (
-      omega (arith, inv.0),
-      omega arith,
-      ap is_empty (c.union-wrong.ensures ∙ ap (union c.loop-i.wrong) c.union.ensures)
-          ∙ ordered_more c.loop-i.i c.loop-i.wrong c.readers_wrong-reading.result c.writers_wrong-writing.result (reading c.before.before.before.before.before.before.before.before.before.before) (writing c.before.before.before.before.before.before.before.before.before.before) inv.2
-          c.readers_wrong-reading.ensures c.writers_wrong-writing.ensures,
-    )
+pub loop-block-preserved : goal.loop-block-preserved
+loop-block-preserved c =
+    let s = state_in c.args.parts.now in
+    let held = c.args.held in
+    let i = c.loop-block.block * block_size in
+    let next : i + block_size ≡ (c.loop-block.block + 1) * block_size = omega arith in
+    ap is_empty (c.union-wrong.ensures ∙ ap (union c.loop-block.wrong) c.union.ensures)
+    ∙ ordered_more i c.loop-block.wrong c.readers_wrong-reading.result c.writers_wrong-writing.result (readers_ordered held s) (writers_ordered held s) c.loop-block.invariant
+    c.readers_wrong-reading.ensures c.writers_wrong-writing.ensures
+    ∙ ap (λ (n : ℕ). every n (object_ordered held s)) next
+
+pub returns : goal.returns
+returns c =
+    let e : c.loop-block.block ≡ blocks c.args.parts.now.counts.objects = omega arith in
+    c.is_empty-2.ensures ∙ c.loop-block.invariant ∙ ap (λ (n : ℕ). every (n * block_size) (object_ordered c.args.held (state_in c.args.parts.now))) e

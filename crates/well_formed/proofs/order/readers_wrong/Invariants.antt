@@ -1,17 +1,13 @@
 -- `well_formed::readers_wrong` meets its contract. Where no reader of the block comes after the most urgent holder, each object is in order. Else the loop's
 -- invariant: the set is empty if and only if the readers of the first k objects of the block are in order; a turn joins those of one more that are not.
--- It ends because what is left of the block falls.
 -- Assumes nothing.
-use Prim.Native.Nat.{◌+◌, ◌-◌, ◌≤◌}
+use Prim.Native.Nat.{◌+◌}
 use mathlib.Core.Path.{◌≡◌}
 use Rattle.basics.specs.Loops.{every}
 use Rattle.ranks.specs.Ranks.{is_empty}
-use Rattle.well_formed.specs.Survey.{block_size, readers_ordered}
+use Rattle.state.specs.Lent.{state_in}
+use Rattle.well_formed.specs.Survey.{readers_ordered}
 use Rattle.well_formed.proofs.order.readers_wrong.Given as goal
 
 abbrev pub invariant-loop-k : goal.invariant-loop-k
-invariant-loop-k l =
-    (l.k ≤ block_size) × (is_empty l.wrong ≡ every l.k (λ j. readers_ordered l.held l.may_write l.readers (l.from + j)))
-
-abbrev pub decreases-loop-k : goal.decreases-loop-k
-decreases-loop-k l = block_size - l.k
+invariant-loop-k l = is_empty l.wrong ≡ every l.k (λ j. readers_ordered l.held (state_in l.parts) (l.from + j))
