@@ -7,7 +7,7 @@ ghost use Rattle.table.specs.Reading.{processors_of, gives_right, with_right, de
 
 use ranks::with;
 use state::{JobProcessors, ObjectSets, SetsMut};
-use table_bytes::{entry_count, entry_start, wide};
+use table_bytes::{Entry, entry_at, entry_count};
 
 // The ranks that may read and that may write, by object.
 #[derive(Clone, Copy)]
@@ -21,13 +21,9 @@ pub fn processors_of(bytes: &[u8]) -> JobProcessors
     requires { table_refusal bytes.now ≡ 0 }
     ensures { result ≡ processors_of bytes.now }
 {
-    let jobs = wide(bytes[6]);
-    let mut processors = [0u8; 64];
-    let mut i = 0;
-    while i < jobs {
-        processors[i] = bytes[8 + i];
-        i += 1;
-    }
+    let jobs = usize::from(bytes[6]);
+    let mut processors = [0; 64];
+    processors[..jobs].copy_from_slice(&bytes[8..8 + jobs]);
     processors
 }
 
@@ -38,15 +34,14 @@ fn gives_right(mode: u8, right: u8) -> bool
     mode == right || mode == 3
 }
 
-// Puts the rank into the object's set if the mode gives the right.
-fn add_right(sets: SetsMut, right: u8, rank: u8, object: u8, mode: u8)
-    requires { ((1 ≤ rank) × (rank ≤ most_jobs)) × ((1 ≤ object) × (object ≤ most_objects)) }
-    ensures { sets.exit.now ≡ with_right right rank object mode sets.entry.now }
+// Puts the entry's rank into its object's set if its mode gives the right.
+fn add_right(sets: SetsMut, right: u8, entry: Entry)
+    requires { ((1 ≤ entry.rank) × (entry.rank ≤ most_jobs)) × ((1 ≤ entry.object) × (entry.object ≤ most_objects)) }
+    ensures { sets.exit.now ≡ with_right right entry.rank entry.object entry.mode sets.entry.now }
 {
-    if gives_right(mode, right) {
-        let place = wide(object) - 1;
-        let set = with(sets[place], rank);
-        sets[place] = set;
+    if gives_right(entry.mode, right) {
+        let place = usize::from(entry.object) - 1;
+        sets[place] = with(sets[place], entry.rank);
     }
 }
 
@@ -56,18 +51,12 @@ pub fn declared(bytes: &[u8]) -> Rights
     ensures { (result.may_read ≡ declared_in read bytes.now (entry_count bytes.now))
         × (result.may_write ≡ declared_in write bytes.now (entry_count bytes.now)) }
 {
-    let count = entry_count(bytes);
     let mut may_read = [0; 128];
     let mut may_write = [0; 128];
-    let mut entry = 0;
-    while entry < count {
-        let start = entry_start(bytes, entry);
-        let rank = bytes[start];
-        let object = bytes[start + 1];
-        let mode = bytes[start + 2];
-        add_right(&mut may_read, 1, rank, object, mode);
-        add_right(&mut may_write, 2, rank, object, mode);
-        entry += 1;
+    for k in 0..entry_count(bytes) {
+        let entry = entry_at(bytes, k);
+        add_right(&mut may_read, 1, entry);
+        add_right(&mut may_write, 2, entry);
     }
     Rights {
         may_read,

@@ -9,14 +9,11 @@ use Rattle.state.specs.RefusalNumbers.{number, refusal_number}
 pub number_some : (e : Refusal) → number e ≡ 0 → ⊥
 number_some e = grind arith
 
-module _ (r : Result Unit Refusal) (e : Refusal) (same : IsErrAnd r (λ x. x ≡ e)) where
-  pub passed_on : refusal_number r ≡ number e
-  passed_on = go r same
-    where
-      go : (s : Result Unit Refusal) → IsErrAnd s (λ x. x ≡ e) → refusal_number s ≡ number e
-      go (Ok x) p = absurd p
-      go (Err x) p = ap number p
+-- what `?` hands on of any answer
+pub handed_on : {T : Type 0} (r : Result T Refusal) (e : Refusal) → IsErrAnd r (λ x. x ≡ e) → r ≡ Err e
+handed_on (Ok x) e same = absurd same
+handed_on (Err x) e same = ap Err same
 
-  -- as one step of several
-  pub decides : (a rest : ℕ) → number e ≡ a → refusal_number r ≡ (a or_else rest)
-  decides a rest q = passed_on ∙ q ∙ sym (or_else_first a rest (λ z. number_some e (q ∙ z)))
+-- as one step of several
+pub decides : (r : Result Unit Refusal) (e : Refusal) (a rest : ℕ) → IsErrAnd r (λ x. x ≡ e) → number e ≡ a → refusal_number r ≡ (a or_else rest)
+decides r e a rest same q = ap refusal_number (handed_on r e same) ∙ q ∙ sym (or_else_first a rest (λ z. number_some e (q ∙ z)))

@@ -1,43 +1,33 @@
--- `table::rights::processors_of` meets its contract. The loop's invariant: the first `i` elements are the first `i` processor bytes, the others 0.
--- A turn stores one byte more. The measure is how many bytes are left.
+-- `table::rights::processors_of` meets its contract: the processor bytes are copied over the front of 64 zeros.
 -- Assumes nothing.
-use mathlib.Core.Path.{◌≡◌, sym, ap, ◌∙◌}
-use Prim.Native.Nat.{ℕ, ◌+◌, ◌-◌, ◌<◌}
-use native.Mathlib.Omega.{arith}
+use Rattle.std.proofs.Common.{◌≡◌, ℕ, ◌+◌, ◌-◌, ◌≤◌, List, ◌++◌, take, drop, length, arith, sym, ap₂, ◌∙◌, length-take-le}
+use Rattle.std.proofs.Math.ListN.{length-drop}
+use Rattle.std.proofs.lemmas.List.{length-replicate, drop-replicate}
+use Rattle.state.specs.State.{zeros}
 use Rattle.table_bytes.specs.AcceptedTable.{accepted_table}
-use mathlib.Core.List.{List, ◌++◌}
-use lib.ListN.{length, get_or, take, drop, set, length-drop}
-use lib.Seq.{get_or-drop}
-use Rattle.basics.specs.Arrays.{copied_more}
-use Rattle.state.specs.State.{most_jobs, zeros}
-use Rattle.table_bytes.specs.Bytes.{jobs_in}
 use Rattle.table.specs.Reading.{processors_of}
 use Rattle.table.proofs.rights.processors_of.Goals as goal
 
-pub bounds-bytes-6 : goal.bounds-bytes-6
-bounds-bytes-6 c = let a = accepted_table c.args.bytes.now c.requires in omega arith
+-- n bytes from index 8 on are as many as the first n of 64 zeros
+same_length : (b : List ℕ) (n : ℕ) → 8 + n ≤ length b → n ≤ 64 → length (take n (zeros 64)) ≡ length (take (8 + n - 8) (drop 8 b))
+same_length b n h l = omega (arith, length-take-le n (zeros 64) (omega (arith, length-replicate {A = ℕ} 64 0)), length-take-le (8 + n - 8) (drop 8 b) (omega (arith, length-drop 8 b)))
 
-pub bounds-bytes-i : goal.bounds-bytes-i
-bounds-bytes-i c = let a = accepted_table c.args.bytes.now c.requires in omega arith
+-- laid over them, they leave the other zeros
+laid_over : (b new : List ℕ) (n : ℕ) → new ≡ take (8 + n - 8) (drop 8 b) → new ++ drop n (zeros 64) ≡ take n (drop 8 b) ++ zeros (64 - n)
+laid_over b new n e =
+    let size : 8 + n - 8 ≡ n = omega arith in
+    ap₂ ◌++◌ (e ∙ (λ i. take (size i) (drop 8 b))) (drop-replicate n 64 0)
 
-pub bounds-processors-i : goal.bounds-processors-i
-bounds-processors-i c = let a = accepted_table c.args.bytes.now c.requires in omega arith
+pub slice_bounds-copy_from_slice-end : goal.slice_bounds-copy_from_slice-end
+slice_bounds-copy_from_slice-end c =
+    let a = accepted_table c.args.bytes.now c.requires in
+    sym (length-take-le _ _ (omega arith))
 
-pub loop-i-preserved : goal.loop-i-preserved
-loop-i-preserved c =
-    let b = c.args.bytes.now in
-    let i = c.loop-i.i in
-    let a = accepted_table b c.requires in
-    let l : i < length (drop 8 b) = simp length-drop (omega arith) in (
-      omega arith,
-      ap (λ (x : List ℕ). set x i (get_or b (8 + i) 0)) c.loop-i.invariant.1
-          ∙ ap (λ (v : ℕ). set (take i (drop 8 b) ++ zeros (most_jobs - i)) i v) (sym (get_or-drop 8 b i 0))
-          ∙ copied_more (drop 8 b) most_jobs i (omega arith) l,
-    )
+pub copy_from_slice-requires : goal.copy_from_slice-requires
+copy_from_slice-requires c =
+    let a = accepted_table c.args.bytes.now c.requires in
+    same_length c.args.bytes.now c.from-jobs.result (omega arith) (omega arith)
 
 pub returns : goal.returns
 unfolding processors_of
-returns c =
-    let b = c.args.bytes.now in
-    let all : c.loop-i.i ≡ jobs_in b = omega arith in
-    c.loop-i.invariant.1 ∙ ap (λ (n : ℕ). take n (drop 8 b) ++ zeros (most_jobs - n)) all
+returns c = laid_over c.args.bytes.now _ c.from-jobs.result c.copy_from_slice.ensures.after ∙ (λ i. take (c.from-jobs.ensures i) (drop 8 c.args.bytes.now) ++ zeros (64 - c.from-jobs.ensures i))

@@ -8,7 +8,7 @@ use Rattle.table_bytes.proofs.table_refusals.table_refusal.Goals as goal
 
 pub returns-in_err-header_refusal : goal.returns-in_err-header_refusal
 unfolding table_refusal
-returns-in_err-header_refusal c = decides _ _ c.from_residual.ensures.1 _ _ c.in_err-header_refusal.ensures
+returns-in_err-header_refusal c = decides _ _ _ _ c.from_residual.ensures.1 c.in_err-header_refusal.ensures
 
 pub length_refusal-requires : goal.length_refusal-requires
 length_refusal-requires c = header_long _ (sym c.in_ok-header_refusal.ensures)
@@ -16,7 +16,7 @@ length_refusal-requires c = header_long _ (sym c.in_ok-header_refusal.ensures)
 pub returns-in_err-length_refusal : goal.returns-in_err-length_refusal
 unfolding table_refusal
 returns-in_err-length_refusal c =
-    rw (← c.in_ok-header_refusal.ensures) (decides _ _ c.from_residual-in_err-length_refusal.ensures.1 _ _ c.in_err-length_refusal.ensures)
+    rw (← c.in_ok-header_refusal.ensures) (decides _ _ _ _ c.from_residual-in_err-length_refusal.ensures.1 c.in_err-length_refusal.ensures)
 
 pub processor_byte_refusal-requires : goal.processor_byte_refusal-requires
 processor_byte_refusal-requires c = start_in _ (sym c.in_ok-length_refusal.ensures)
@@ -25,7 +25,7 @@ pub returns-in_err-processor_byte_refusal : goal.returns-in_err-processor_byte_r
 unfolding table_refusal
 returns-in_err-processor_byte_refusal c =
     rw (← c.in_ok-header_refusal.ensures, ← c.in_ok-length_refusal.ensures)
-    (decides _ _ c.from_residual-in_err-processor_byte_refusal.ensures.1 _ _ c.in_err-processor_byte_refusal.ensures)
+    (decides _ _ _ _ c.from_residual-in_err-processor_byte_refusal.ensures.1 c.in_err-processor_byte_refusal.ensures)
 
 pub entries_refusal-requires : goal.entries_refusal-requires
 entries_refusal-requires c = table_in _ (sym c.in_ok-length_refusal.ensures)
