@@ -49,10 +49,10 @@ laid_on old before after i end next sofar more h b a = (
 )
 
 -- a turn of a loop that lays one list more behind those laid so far
-pub laid_turn : (old before after : List ℕ) (i end : ℕ) (sofar more all : List ℕ) → before ≡ laid old i sofar → end ≡ i + length sofar → all ≡ sofar ++ more
-    → i + length all ≤ length old → after ≡ laid before end more → (end + length more ≡ i + length all) × (after ≡ laid old i all) × (length after ≡ length old)
-laid_turn old before after i end sofar more all eb ee ea h e =
-    let long = ap length ea ∙ length-append sofar more in
-    let new : after ≡ laid old i all =
-    e ∙ ap₂ (λ (l : List ℕ) (k : ℕ). laid l k more) eb ee ∙ laid_more old i sofar more (omega arith) ∙ ap (laid old i) (sym ea) in
-    (omega arith, new, ap length new ∙ laid_length old i all h)
+pub laid_turn : (old before after : List ℕ) (i end next : ℕ) (sofar more all : List ℕ) → all ≡ sofar ++ more → i + length all ≤ length old
+    → (end ≡ i + length sofar) × (before ≡ laid old i sofar) → (next ≡ end + length more) × (after ≡ laid before end more)
+    → (next ≡ i + length all) × (after ≡ laid old i all) × (length after ≡ length old)
+laid_turn old before after i end next sofar more all e h b a =
+    let on = laid_on old before after i end next sofar more (omega arith) b a in
+    let new = on.1 ∙ ap (laid old i) (sym e) in
+    (on.0 ∙ ap (λ (l : List ℕ). i + length l) (sym e), new, ap length new ∙ laid_length old i all h)

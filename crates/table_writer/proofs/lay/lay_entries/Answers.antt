@@ -34,11 +34,8 @@ loop-k-preserved c =
     let loop = c.loop-k in
     let k = loop.k in
     let room = ranks_grow modes objects (k + 1) parts.counts.jobs (omega arith) in
-    let turn =
-    laid_turn c.args.buf.now loop.buf c.lay_rank-end.new.buf c.args.at loop.end
-    (entries_of_ranks modes objects k) (entries_of_rank modes (k + 1) objects) (entries_of_ranks modes objects (k + 1))
-    loop.invariant.2 loop.invariant.1 (ranks_more modes objects k) (omega arith) c.lay_rank-end.ensures.1 in
-    (omega arith, c.lay_rank-end.ensures.0 ∙ turn.0, turn.1, turn.2)
+    let turn = laid_turn c.args.buf.now _ _ c.args.at _ _ _ _ _ (ranks_more modes objects k) (omega arith) (loop.invariant.1, loop.invariant.2) c.lay_rank-end.ensures in
+    (omega arith, turn.0, turn.1, turn.2)
 
 pub returns : goal.returns
 unfolding entries_bytes rank_bytes entries_of_ranks entries_of_rank

@@ -44,15 +44,11 @@ loop-i-preserved c =
     let rank = c.args.rank in
     let loop = c.loop-i in
     let k = loop.i in
-    let mode = c.declared_mode-mode.result in
     let m = next-mode parts.may_read.now parts.may_write.now rank k _ _ c.from-place.ensures c.declared_mode-mode.ensures in
+    let more = rank_more modes rank k ∙ ap (λ (n : ℕ). entries_of_rank modes rank k ++ entry_bytes rank (k + 1) n) (sym m) in
     let room = rank_grows modes rank (k + 1) parts.counts.objects (omega arith) in
-    let turn =
-    laid_turn c.args.buf.now loop.buf c.lay_entry-end.new.buf c.args.at loop.end
-    (entries_of_rank modes rank k) (entry_bytes rank (k + 1) mode) (entries_of_rank modes rank (k + 1))
-    loop.invariant.2 loop.invariant.1 (rank_more modes rank k ∙ ap (λ (n : ℕ). entries_of_rank modes rank k ++ entry_bytes rank (k + 1) n) (sym m)) (omega arith)
-    c.lay_entry-end.ensures.1 in
-    (omega arith, c.lay_entry-end.ensures.0 ∙ turn.0, turn.1, turn.2)
+    let turn = laid_turn c.args.buf.now _ _ c.args.at _ _ _ _ _ more (omega arith) (loop.invariant.1, loop.invariant.2) c.lay_entry-end.ensures in
+    (omega arith, turn.0, turn.1, turn.2)
 
 pub returns : goal.returns
 unfolding rank_bytes entries_of_rank
