@@ -1,13 +1,11 @@
 // One job's entries, as a part of the table bytes.
-ghost use Rattle.std.specs.Prelude.{◌≡◌, ◌≤◌};
+ghost use Rattle.std.specs.Prelude.{◌≡◌};
 ghost use Rattle.state.specs.RefusalNumbers.{refusal_number};
-ghost use Rattle.table_bytes.specs.Bytes.{entry_count};
-ghost use Rattle.table_bytes.specs.Refusals.{table_refusal};
 ghost use Rattle.table.specs.JobEntries.{job_entries_refusal, job_entries, part_of, part_number};
-ghost use Rattle.table.specs.JobPart.{FirstFrom};
 
+use crate::accepted::Accepted;
 use state::{Refusal, within};
-use table_bytes::{entry_at, entry_count, entry_start, table_refusal};
+use table_bytes::{entry_start, table_refusal};
 
 // The refusal of the table bytes, then 10 if they have no such rank.
 fn job_entries_refusal(bytes: &[u8], rank: u8) -> Result<(), Refusal>
@@ -20,28 +18,15 @@ fn job_entries_refusal(bytes: &[u8], rank: u8) -> Result<(), Refusal>
     Ok(())
 }
 
-// The first entry from `start` on of the rank or a greater one, counted from 0; the entry count if there is none.
-fn first_entry_from(bytes: &[u8], rank: u8, start: usize) -> usize
-    requires { (table_refusal bytes.now ≡ 0) × (start ≤ entry_count bytes.now) }
-    ensures { FirstFrom bytes.now rank start result }
-{
-    let count = entry_count(bytes);
-    for k in start..count {
-        if rank <= entry_at(bytes, k).rank {
-            return k;
-        }
-    }
-    count
-}
-
 // The part of the table bytes that holds the entries of the job of the rank, empty if it has none.
 #[tactic(auto, using(table_bytes::specs::AcceptedTable::accepted_table, crate::specs::JobPart::job_accepted))]
 pub fn job_entries<'a>(bytes: &'a [u8], rank: u8) -> Result<&'a [u8], Refusal>
     ensures { (part_of result ≡ job_entries bytes.now rank) × (part_number result ≡ job_entries_refusal bytes.now rank) }
 {
     job_entries_refusal(bytes, rank)?;
-    let first = first_entry_from(bytes, rank, 0);
-    let next = first_entry_from(bytes, rank + 1, first);
+    let table = Accepted { bytes };
+    let first = table.first_entry_from(rank, 0);
+    let next = table.first_entry_from(rank + 1, first);
     let from = entry_start(bytes, first);
     let to = entry_start(bytes, next);
     Ok(&bytes[from..to])

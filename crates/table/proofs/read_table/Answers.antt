@@ -13,4 +13,4 @@ returns-in_err-table_refusal c =
 
 pub returns : goal.returns
 returns c =
-    (λ i. record { refusal = 0; used = c.table_length.ensures i; state = c.table_state.ensures i }) ∙ sym (read_accepted _ (sym c.in_ok-table_refusal.ensures))
+    (λ i. record { refusal = 0; used = c.table_length.ensures i; state = c.state.ensures i }) ∙ sym (read_accepted _ (sym c.in_ok-table_refusal.ensures))

@@ -1,4 +1,4 @@
--- `table::rights::add_right` meets its contract: the object's set stands one place before its number.
+-- `table::accepted::add_right` meets its contract: the object's set stands one place before its number.
 -- Assumes nothing.
 use mathlib.Core.Path.{◌≡◌, sym, ap, ◌∙◌}
 use Prim.Native.Nat.{ℕ, ◌-◌}
@@ -6,7 +6,7 @@ use lib.ListN.{get_or, set}
 use Rattle.basics.specs.Arrays.{at, at_index, put_index}
 use Rattle.ranks.specs.Ranks.{with}
 use Rattle.table.specs.Reading.{with_right}
-use Rattle.table.proofs.rights.add_right.Goals as goal
+use Rattle.table.proofs.accepted.add_right.Goals as goal
 
 pub returns-then-gives_right : goal.returns-then-gives_right
 unfolding with_right

@@ -1,4 +1,4 @@
--- `table::rights::processors_of` meets its contract: the processor bytes are copied over the front of 64 zeros.
+-- `table::accepted::Accepted::processors` meets its contract: the processor bytes are copied over the front of 64 zeros.
 -- Assumes nothing.
 use Rattle.std.proofs.Common.{◌≡◌, ℕ, ◌+◌, ◌-◌, ◌≤◌, List, ◌++◌, take, drop, length, arith, sym, ap₂, ◌∙◌, length-take-le}
 use Rattle.std.proofs.Math.ListN.{length-drop}
@@ -6,7 +6,7 @@ use Rattle.std.proofs.lemmas.List.{length-replicate, drop-replicate}
 use Rattle.state.specs.State.{zeros}
 use Rattle.table_bytes.specs.AcceptedTable.{accepted_table}
 use Rattle.table.specs.Reading.{processors_of}
-use Rattle.table.proofs.rights.processors_of.Goals as goal
+use Rattle.table.proofs.accepted.Accepted.processors.Goals as goal
 
 -- n bytes from index 8 on are as many as the first n of 64 zeros
 same_length : (b : List ℕ) (n : ℕ) → 8 + n ≤ length b → n ≤ 64 → length (take n (zeros 64)) ≡ length (take (8 + n - 8) (drop 8 b))
@@ -20,14 +20,14 @@ laid_over b new n e =
 
 pub slice_bounds-copy_from_slice-end : goal.slice_bounds-copy_from_slice-end
 slice_bounds-copy_from_slice-end c =
-    let a = accepted_table c.args.bytes.now c.requires in
+    let a = accepted_table c.args.self.now.bytes.now c.args.self.now.accepted in
     sym (length-take-le _ _ (omega arith))
 
 pub copy_from_slice-requires : goal.copy_from_slice-requires
 copy_from_slice-requires c =
-    let a = accepted_table c.args.bytes.now c.requires in
-    same_length c.args.bytes.now c.from-jobs.result (omega arith) (omega arith)
+    let a = accepted_table c.args.self.now.bytes.now c.args.self.now.accepted in
+    same_length c.args.self.now.bytes.now c.from-jobs.result (omega arith) (omega arith)
 
 pub returns : goal.returns
 unfolding processors_of
-returns c = laid_over c.args.bytes.now _ c.from-jobs.result c.copy_from_slice.ensures.after ∙ (λ i. take (c.from-jobs.ensures i) (drop 8 c.args.bytes.now) ++ zeros (64 - c.from-jobs.ensures i))
+returns c = laid_over c.args.self.now.bytes.now _ c.from-jobs.result c.copy_from_slice.ensures.after ∙ (λ i. take (c.from-jobs.ensures i) (drop 8 c.args.self.now.bytes.now) ++ zeros (64 - c.from-jobs.ensures i))
