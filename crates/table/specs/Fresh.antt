@@ -22,10 +22,9 @@ use Rattle.state.specs.State.{most_jobs, read, write, most_objects, mark_words, 
 use Rattle.state.specs.WellFormed.{counts_fit, processor_fits, processors_fit, declaration_fits, declarations_fit, declared_of_jobs, above_idle}
 use Rattle.state.specs.WellFormed.{held_by_active, held_by_right, locks_fit, locked_once, one_lock_each, written_alone, writers_alone, wait_fits, waits_fit, marks_fit, version_fits}
 use Rattle.state.specs.WellFormed.{certify_fits, certifies_fit, waits_awake, sleepers_fit, holder_fits, in_order, holders_in_order, well_formed}
-use Rattle.table.specs.declared.TableRead.{TableRead}
 use Rattle.table_bytes.specs.Bytes.{processors_in, jobs_in, objects_in, entry_count, table_length}
 use Rattle.table_bytes.specs.Refusals.{table_refusal}
-use Rattle.table.specs.Reading.{declared_in, table_state, refused_read, read_table}
+use Rattle.table.specs.Reading.{TableRead, declared_in, table_state, refused_read, read_table}
 use Rattle.table_bytes.specs.AcceptedTable.{AcceptedTable, accepted_table, accepted_version, accepted_counts}
 use Rattle.table.specs.Declarations.{SetsFit, declared_fits, processor_read}
 

@@ -1,8 +1,11 @@
 -- One job's entries (01, "Table bytes"): "One reading call hands back the part of the table bytes that holds one job's entries, empty if it has none."
 -- Assumes nothing.
-use Rattle.std.specs.Prelude.{ℕ, zero, suc, not, List, [], take, drop, eqb, if◌then◌else◌}
+use Rattle.std.specs.Borrow.{Bor}
+use Rattle.std.specs.Prelude.{ℕ, zero, suc, not, List, [], take, drop, eqb, if◌then◌else◌, Result, Ok, Err}
 use Rattle.basics.specs.Choice.{◌if◌else◌, ◌or_else◌, between}
 use Rattle.basics.specs.Loops.{joined}
+use Rattle.state.specs.declared.refusal.Refusal.{Refusal}
+use Rattle.state.specs.RefusalNumbers.{number}
 use Rattle.table_bytes.specs.Bytes.{jobs_in, entry_rank, entry_start, entry_count}
 use Rattle.table_bytes.specs.Refusals.{table_refusal}
 
@@ -15,10 +18,19 @@ entry_of b rank (suc k) = if eqb (entry_rank b k) rank then take 3 (drop (entry_
 unfoldable pub entries_of : List ℕ → ℕ → List ℕ
 entries_of b rank = joined (entry_count b) (entry_of b rank)
 
--- "one job's entries 1 to 7, then 10": the number that is set in the lent cell, 0 if none is
+-- "one job's entries 1 to 7, then 10": the refusal's number, 0 if there is none
 unfoldable pub job_entries_refusal : List ℕ → ℕ → ℕ
 job_entries_refusal b rank = table_refusal b or_else (10 if not (between 1 (jobs_in b) rank) else 0)
 
 -- the part that is handed back: "with an empty part" on a refusal
 unfoldable pub job_entries : List ℕ → ℕ → List ℕ
 job_entries b rank = if eqb (job_entries_refusal b rank) 0 then entries_of b rank else []
+
+-- the part and the number of the code's answer
+abbrev pub part_of : Result (Bor (List ℕ)) Refusal → List ℕ
+part_of (Ok part) = part.now
+part_of (Err refusal) = []
+
+abbrev pub part_number : Result (Bor (List ℕ)) Refusal → ℕ
+part_number (Ok part) = 0
+part_number (Err refusal) = number refusal

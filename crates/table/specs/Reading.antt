@@ -1,11 +1,13 @@
 -- What the table reader returns: refusal, bytes used, state (01, "Table bytes" and "Refusals").
 -- Assumes nothing.
-use Rattle.std.specs.Prelude.{ℕ, zero, suc, ◌-◌, Bool, ◌||◌, List, ◌++◌, take, drop, eqb, if◌then◌else◌}
+use Rattle.std.specs.Prelude.{ℕ, zero, suc, ◌-◌, Bool, ◌||◌, List, ◌++◌, take, drop, eqb, if◌then◌else◌, Result, Ok, Err}
 use Rattle.basics.specs.Arrays.{at, put}
 use Rattle.ranks.specs.Ranks.{with}
 use Rattle.state.specs.declared.State.{State}
 use Rattle.state.specs.State.{most_jobs, read, write, most_objects, zeros, fresh_state, zero_state}
-use Rattle.table.specs.declared.TableRead.{TableRead}
+use Rattle.state.specs.declared.refusal.Refusal.{Refusal}
+use Rattle.state.specs.RefusalNumbers.{number}
+use Rattle.table.specs.declared.TableRead as Code
 use Rattle.table_bytes.specs.Bytes.{jobs_in, counts_in, entry_count, table_length, entry_rank, entry_object, entry_mode}
 use Rattle.table_bytes.specs.Refusals.{table_refusal}
 
@@ -32,6 +34,12 @@ table_state b =
     fresh_state (counts_in b) (processors_of b)
     (declared_in read b (entry_count b)) (declared_in write b (entry_count b))
 
+-- what the table reader tells: the refusal's number or 0, how many bytes the table has, its fresh state
+pub record TableRead : Type 0 where
+  pub refusal : ℕ
+  pub used : ℕ
+  pub state : State
+
 -- "The table reader, handed no state, returns one whose numbers are all 0 and says 0 bytes used."
 abbrev pub refused_read : ℕ → TableRead
 refused_read n = record { refusal = n; used = 0; state = zero_state }
@@ -39,3 +47,8 @@ refused_read n = record { refusal = n; used = 0; state = zero_state }
 unfoldable pub read_table : List ℕ → TableRead
 read_table b =
     if eqb (table_refusal b) 0 then record { refusal = 0; used = table_length b; state = table_state b } else refused_read (table_refusal b)
+
+-- what the code's answer tells
+abbrev pub read_of : Result Code.TableRead Refusal → TableRead
+read_of (Ok read) = record { refusal = 0; used = read.used; state = read.state }
+read_of (Err refusal) = refused_read (number refusal)

@@ -1,22 +1,33 @@
 // Where the parts of table bytes stand.
 ghost use Rattle.std.specs.Prelude.{◌≡◌, true, ◌+◌, ◌*◌, ◌≤◌, ◌<◌, length};
 ghost use Rattle.state.specs.State.{is_version};
-ghost use Rattle.table_bytes.specs.Bytes.{version_in, counts_in, entry_count, entries_start, table_length, entry_start};
+ghost use Rattle.table_bytes.specs.Bytes.{version_in, word, counts_in, entry_count, entries_start, table_length, entry_start, entry_rank, entry_object, entry_mode, order};
 
 use state::Counts;
 
-// The byte as a number that counts bytes.
-pub fn wide(x: u8) -> usize
-    ensures { (result ≡ x) × (result < 256) }
-{
-    x as usize
+// An entry of a table: the job of the rank may lock the object in mode 1 read, 2 write, 3 both.
+#[derive(Clone, Copy)]
+pub struct Entry {
+    pub rank: u8,
+    pub object: u8,
+    pub mode: u8,
 }
 
-// 16 bits, high byte first.
-pub fn word(high: u8, low: u8) -> usize
-    ensures { (result ≡ high * 256 + low) × (result < 65536) }
+impl Entry {
+    // The number by which entries ascend: by rank, then object.
+    pub(crate) fn order(self) -> u16
+        ensures { result ≡ order self.rank self.object }
+    {
+        u16::from_be_bytes([self.rank, self.object])
+    }
+}
+
+// The number of 16 bits at the index, high byte first.
+fn word_at(bytes: &[u8], at: usize) -> u16
+    requires { at + 1 < length bytes.now }
+    ensures { result ≡ word bytes.now at }
 {
-    wide(high) * 256 + wide(low)
+    u16::from_be_bytes([bytes[at], bytes[at + 1]])
 }
 
 // The version and the numbers of processors, jobs and objects in the header. A version's high byte is 0.
@@ -37,7 +48,7 @@ pub fn entries_start(bytes: &[u8]) -> usize
     requires { 8 ≤ length bytes.now }
     ensures { (result ≡ entries_start bytes.now) × (result < 266) }
 {
-    10 + wide(bytes[6])
+    10 + usize::from(bytes[6])
 }
 
 // How many entries the table has.
@@ -45,8 +56,7 @@ pub fn entry_count(bytes: &[u8]) -> usize
     requires { entries_start bytes.now ≤ length bytes.now }
     ensures { (result ≡ entry_count bytes.now) × (result < 65536) }
 {
-    let start = 8 + wide(bytes[6]);
-    word(bytes[start], bytes[start + 1])
+    usize::from(word_at(bytes, 8 + usize::from(bytes[6])))
 }
 
 // How many bytes the table has.
@@ -63,4 +73,18 @@ pub fn entry_start(bytes: &[u8], entry: usize) -> usize
     ensures { (result ≡ entry_start bytes.now entry) × (result < 196874) }
 {
     entries_start(bytes) + 3 * entry
+}
+
+// The entry, counted from 0.
+pub fn entry_at(bytes: &[u8], entry: usize) -> Entry
+    requires { (entry < 65536) × (entry_start bytes.now entry + 3 ≤ length bytes.now) }
+    ensures { (result.rank ≡ entry_rank bytes.now entry) × (result.object ≡ entry_object bytes.now entry)
+        × (result.mode ≡ entry_mode bytes.now entry) }
+{
+    let start = entry_start(bytes, entry);
+    Entry {
+        rank: bytes[start],
+        object: bytes[start + 1],
+        mode: bytes[start + 2],
+    }
 }

@@ -4,5 +4,5 @@
 mod bytes;
 mod table_refusals;
 
-pub use bytes::{counts_in, entry_count, entry_start, table_length, wide};
+pub use bytes::{Entry, counts_in, entry_at, entry_count, entry_start, table_length};
 pub use table_refusals::table_refusal;

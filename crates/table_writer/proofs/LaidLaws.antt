@@ -1,4 +1,4 @@
--- A list laid over a buffer from an index on, `laid`: nothing, one list behind another, lengths, stores one by one.
+-- A list laid over a buffer from an index on, `laid`: nothing, one list behind another, lengths.
 -- Assumes nothing.
 use Prim.Native.Nat.{ℕ, ◌+◌, ◌≤◌}
 use mathlib.Core.Path.{◌≡◌, sym, ap, ap₂, ◌∙◌}
@@ -6,7 +6,7 @@ use mathlib.Core.List.{List, [], ◌++◌, append_assoc}
 use native.Mathlib.Nat.{zero-add, add-zero, add_assoc, le_trans, le-add_right}
 use native.Mathlib.Omega.{arith}
 use lib.ListN.{length, take, drop, length-append, length-drop, take-append-drop}
-use lib.Seq.{take_at, drop_at, drop-drop, length-take-le, sets, sets-eq}
+use lib.Seq.{take_at, drop_at, drop-drop, length-take-le}
 use Rattle.table_writer.specs.Laying.{laid}
 
 pub laid_none : (old : List ℕ) (i : ℕ) → laid old i [] ≡ old
@@ -35,21 +35,24 @@ laid_length old i xs h =
     let t = length-take-le i old (le_trans (le-add_right i (length xs)) h) in
     simp (length-append, length-drop) (omega (arith, t))
 
--- stores one by one from the index on
-pub sets_laid : (old : List ℕ) (i : ℕ) (xs : List ℕ) → i + length xs ≤ length old → sets old i xs ≡ laid old i xs
-unfolding laid
-sets_laid old i xs h = sets-eq xs old i h ∙ append_assoc (take i old) xs (drop (i + length xs) old)
-
 -- at the front
 pub laid_front : (old xs : List ℕ) → laid old 0 xs ≡ xs ++ drop (length xs) old
 unfolding laid
 laid_front old xs = ap (λ (k : ℕ). xs ++ drop k old) (zero-add (length xs))
 
+-- one list more behind those laid so far: how far, and what is laid
+pub laid_on : (old before after : List ℕ) (i end next : ℕ) (sofar more : List ℕ) → i ≤ length old → (end ≡ i + length sofar) × (before ≡ laid old i sofar)
+    → (next ≡ end + length more) × (after ≡ laid before end more) → (next ≡ i + length (sofar ++ more)) × (after ≡ laid old i (sofar ++ more))
+laid_on old before after i end next sofar more h b a = (
+  omega (arith, b.0, a.0, length-append sofar more),
+  a.1 ∙ ap₂ (λ (l : List ℕ) (k : ℕ). laid l k more) b.1 b.0 ∙ laid_more old i sofar more h,
+)
+
 -- a turn of a loop that lays one list more behind those laid so far
-pub laid_turn : (old before after : List ℕ) (i end : ℕ) (sofar more all : List ℕ) → before ≡ laid old i sofar → end ≡ i + length sofar → all ≡ sofar ++ more
-    → i + length all ≤ length old → after ≡ laid before end more → (end + length more ≡ i + length all) × (after ≡ laid old i all) × (length after ≡ length old)
-laid_turn old before after i end sofar more all eb ee ea h e =
-    let long = ap length ea ∙ length-append sofar more in
-    let new : after ≡ laid old i all =
-    e ∙ ap₂ (λ (l : List ℕ) (k : ℕ). laid l k more) eb ee ∙ laid_more old i sofar more (omega arith) ∙ ap (laid old i) (sym ea) in
-    (omega arith, new, ap length new ∙ laid_length old i all h)
+pub laid_turn : (old before after : List ℕ) (i end next : ℕ) (sofar more all : List ℕ) → all ≡ sofar ++ more → i + length all ≤ length old
+    → (end ≡ i + length sofar) × (before ≡ laid old i sofar) → (next ≡ end + length more) × (after ≡ laid before end more)
+    → (next ≡ i + length all) × (after ≡ laid old i all) × (length after ≡ length old)
+laid_turn old before after i end next sofar more all e h b a =
+    let on = laid_on old before after i end next sofar more (omega arith) b a in
+    let new = on.1 ∙ ap (laid old i) (sym e) in
+    (on.0 ∙ ap (λ (l : List ℕ). i + length l) (sym e), new, ap length new ∙ laid_length old i all h)

@@ -5,11 +5,10 @@ use Rattle.std.proofs.Common.{sym, ap, ◌∙◌}
 use Rattle.state.specs.declared.State.{State}
 use Rattle.state.specs.State.{most_jobs, most_objects, zeros, fresh_state}
 use Rattle.state.specs.WellFormed.{well_formed}
-use Rattle.table.specs.declared.TableRead.{TableRead}
 use Rattle.table_bytes.specs.Bytes.{byte}
 use Rattle.table_bytes.specs.Refusals.{table_refusal}
 use Rattle.table_bytes.specs.AcceptedTable.{accepted_table, accepted_refusal}
-use Rattle.table.specs.Reading.{read_table}
+use Rattle.table.specs.Reading.{TableRead, read_table}
 use Rattle.table.specs.Fresh.{read_refusal, read_accepted}
 use Rattle.table_writer.specs.Writing.{table_bytes, written}
 use Rattle.table_writer.specs.Outcomes.{table_written}

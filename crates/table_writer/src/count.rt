@@ -5,7 +5,7 @@ ghost use Rattle.state.specs.State.{most_objects};
 ghost use Rattle.table_writer.specs.Laying.{entry_total};
 
 use ranks::RankSet;
-use state::Sets;
+use state::Parts;
 
 // How many entries an object has: one for each rank that may read or write it.
 fn object_entries(reads: RankSet, writes: RankSet) -> usize
@@ -14,16 +14,15 @@ fn object_entries(reads: RankSet, writes: RankSet) -> usize
     ranks::size(ranks::union(reads, writes))
 }
 
-// How many entries the objects up to the count have.
-pub fn entry_count<'a>(reads: Sets<'a>, writes: Sets<'a>, objects: u8) -> usize
-    requires { objects ≤ most_objects }
-    ensures { (result ≡ entry_total reads.entry.now writes.entry.now objects) × (result ≤ word_bits * objects) }
+// How many entries the table of a state with these parts has.
+pub fn entry_count(parts: &Parts) -> usize
+    requires { parts.now.counts.objects ≤ most_objects }
+    ensures { (result ≡ entry_total parts.now.may_read.now parts.now.may_write.now parts.now.counts.objects)
+        × (result ≤ word_bits * parts.now.counts.objects) }
 {
     let mut count = 0;
-    let mut i = 0;
-    while i < objects as usize {
-        count += object_entries(reads[i], writes[i]);
-        i += 1;
+    for i in 0..usize::from(parts.counts.objects) {
+        count += object_entries(parts.may_read[i], parts.may_write[i]);
     }
     count
 }

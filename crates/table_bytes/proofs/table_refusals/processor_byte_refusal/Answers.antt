@@ -1,5 +1,5 @@
 -- `table_bytes::table_refusals::processor_byte_refusal` meets its contract. The loop's invariant: none of the first `i` processor bytes is too large.
--- A turn adds the byte that its test passed; where the test fails, that byte is the first. The measure is how many bytes are left.
+-- A turn adds the byte that its test passed; where the test fails, that byte is the first.
 -- Assumes nothing.
 use mathlib.Core.Path.{◌≡◌, refl, sym, ap, ◌∙◌}
 use Prim.Native.Nat.{ℕ, suc}

@@ -1,41 +1,36 @@
 -- `table_bytes::table_refusals::table_refusal` meets its contract: the first step that refuses decides, and each step is safe since those before it passed.
 -- Assumes nothing.
-use mathlib.Core.Path.{sym, ◌∙◌}
-use Rattle.table_bytes.specs.Refusals.{header_refusal, length_refusal, processor_byte_refusal, table_refusal}
+use Rattle.std.proofs.Common.{sym}
+use Rattle.table_bytes.specs.Refusals.{table_refusal}
 use Rattle.table_bytes.specs.AcceptedTable.{header_long, start_in, table_in}
-use Rattle.basics.specs.Choice.{or_else_first}
+use Rattle.table_bytes.specs.Steps.{decides}
 use Rattle.table_bytes.proofs.table_refusals.table_refusal.Goals as goal
 
-pub returns-then-header-ne0 : goal.returns-then-header-ne0
+pub returns-in_err-header_refusal : goal.returns-in_err-header_refusal
 unfolding table_refusal
-returns-then-header-ne0 c =
-    let b = c.args.bytes.now in
-    let h = c.header_refusal-header.ensures in
-    h ∙ sym (or_else_first (header_refusal b) _ (λ e. c.if-header-ne0.true (h ∙ e)))
+returns-in_err-header_refusal c = decides _ _ _ _ c.from_residual.ensures.1 c.in_err-header_refusal.ensures
 
-pub length_refusal-lengths-requires : goal.length_refusal-lengths-requires
-length_refusal-lengths-requires c = header_long c.args.bytes.now (sym c.header_refusal-header.ensures ∙ c.if-header-ne0.false)
+pub length_refusal-requires : goal.length_refusal-requires
+length_refusal-requires c = header_long _ (sym c.in_ok-header_refusal.ensures)
 
-pub returns-then-lengths-ne0 : goal.returns-then-lengths-ne0
+pub returns-in_err-length_refusal : goal.returns-in_err-length_refusal
 unfolding table_refusal
-returns-then-lengths-ne0 c =
-    let b = c.args.bytes.now in
-    let h = c.length_refusal-lengths.ensures in
-    h ∙ sym (rw (sym c.header_refusal-header.ensures ∙ c.if-header-ne0.false) (or_else_first (length_refusal b) _ (λ e. c.if-lengths-ne0.true (h ∙ e))))
+returns-in_err-length_refusal c =
+    rw (← c.in_ok-header_refusal.ensures) (decides _ _ _ _ c.from_residual-in_err-length_refusal.ensures.1 c.in_err-length_refusal.ensures)
 
-pub processor_byte_refusal-processors-requires : goal.processor_byte_refusal-processors-requires
-processor_byte_refusal-processors-requires c = start_in c.args.bytes.now (sym c.length_refusal-lengths.ensures ∙ c.if-lengths-ne0.false)
+pub processor_byte_refusal-requires : goal.processor_byte_refusal-requires
+processor_byte_refusal-requires c = start_in _ (sym c.in_ok-length_refusal.ensures)
 
-pub returns-then-processors-ne0 : goal.returns-then-processors-ne0
+pub returns-in_err-processor_byte_refusal : goal.returns-in_err-processor_byte_refusal
 unfolding table_refusal
-returns-then-processors-ne0 c =
-    let b = c.args.bytes.now in
-    let h = c.processor_byte_refusal-processors.ensures in
-    h ∙ sym (rw (sym c.header_refusal-header.ensures ∙ c.if-header-ne0.false, sym c.length_refusal-lengths.ensures ∙ c.if-lengths-ne0.false) (or_else_first (processor_byte_refusal b) _ (λ e. c.if-processors-ne0.true (h ∙ e))))
+returns-in_err-processor_byte_refusal c =
+    rw (← c.in_ok-header_refusal.ensures, ← c.in_ok-length_refusal.ensures)
+    (decides _ _ _ _ c.from_residual-in_err-processor_byte_refusal.ensures.1 c.in_err-processor_byte_refusal.ensures)
 
 pub entries_refusal-requires : goal.entries_refusal-requires
-entries_refusal-requires c = table_in c.args.bytes.now (sym c.length_refusal-lengths.ensures ∙ c.if-lengths-ne0.false)
+entries_refusal-requires c = table_in _ (sym c.in_ok-length_refusal.ensures)
 
 pub returns : goal.returns
 unfolding table_refusal
-returns c = c.entries_refusal.ensures ∙ sym (rw (sym c.header_refusal-header.ensures ∙ c.if-header-ne0.false, sym c.length_refusal-lengths.ensures ∙ c.if-lengths-ne0.false, sym c.processor_byte_refusal-processors.ensures ∙ c.if-processors-ne0.false))
+returns c =
+    rw (← c.in_ok-header_refusal.ensures, ← c.in_ok-length_refusal.ensures, ← c.in_ok-processor_byte_refusal.ensures) c.entries_refusal.ensures

@@ -1,5 +1,5 @@
 -- `table_writer::count::entry_count` meets its contract. The loop's invariant: the count is the total of the first i objects, and at most the bits of a
--- word for each. A turn adds the next object's. The measure is how many objects are left. Assumes nothing.
+-- word for each. A turn adds the next object's. Assumes nothing.
 use Prim.Native.Nat.{◌+◌}
 use mathlib.Core.Path.{◌≡◌, refl, sym, ap₂, ◌∙◌}
 use native.Mathlib.Numerals.{add-one}
@@ -17,8 +17,8 @@ loop-i-init c = (omega arith, refl, omega arith)
 pub loop-i-preserved : goal.loop-i-preserved
 unfolding entry_total
 loop-i-preserved c =
-    let reads = c.args.reads.now in
-    let writes = c.args.writes.now in
+    let reads = c.args.parts.now.may_read.now in
+    let writes = c.args.parts.now.may_write.now in
     let i = c.loop-i.i in
     let next : size (union (get_or reads i 0) (get_or writes i 0)) ≡ entries_on reads writes (i + 1) = rw add-one in (
       omega arith,

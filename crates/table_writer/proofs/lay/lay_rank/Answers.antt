@@ -1,48 +1,59 @@
 -- `table_writer::lay::lay_rank` meets its contract. The loop's invariant: the rank's entries for the objects passed are laid from the index on, and
--- `end` stands behind them. A turn lays the next object's entry behind. The measure is how many objects are left. Assumes nothing.
+-- `end` stands behind them. A turn lays the next object's entry behind. Assumes nothing.
 use Prim.Native.Nat.{ℕ, ◌+◌}
 use mathlib.Core.Path.{◌≡◌, refl, sym, ap, ◌∙◌}
-use mathlib.Core.List.{◌++◌}
+use mathlib.Core.List.{List, ◌++◌}
 use native.Mathlib.Nat.{add-zero}
 use native.Mathlib.Numerals.{add-one}
 use native.Mathlib.Omega.{arith}
+use lib.ListN.{get_or, length}
 use Rattle.basics.specs.Loops.{joined}
-use Rattle.table_writer.specs.Writing.{entry_bytes}
-use Rattle.table_writer.specs.Laying.{declared_modes, entries_of_rank}
+use Rattle.table_writer.specs.Writing.{entry_bytes, rank_bytes}
+use Rattle.table_writer.specs.Laying.{declared_mode_of, declared_modes, entries_of_rank, laid}
 use Rattle.table_writer.specs.EntryLaws.{rank_more, rank_more_length, rank_grows}
 use Rattle.table_writer.proofs.LaidLaws.{laid_none, laid_turn}
 use Rattle.table_writer.proofs.lay.lay_rank.Goals as goal
 
-pub loop-object-init : goal.loop-object-init
+pub loop-i-init : goal.loop-i-init
 unfolding entries_of_rank joined
-loop-object-init c = (omega arith, sym (add-zero _), sym (laid_none _ _), refl)
+loop-i-init c = (omega arith, sym (add-zero _), sym (laid_none _ _), refl)
+
+-- the mode that is laid for the next object
+next-mode : (reads writes : List ℕ) (rank i place mode : ℕ) → place ≡ i → mode ≡ declared_mode_of (get_or reads place 0) (get_or writes place 0) rank
+    → mode ≡ declared_modes reads writes rank (i + 1)
+next-mode reads writes rank i place mode p e =
+    let same : declared_mode_of (get_or reads i 0) (get_or writes i 0) rank ≡ declared_modes reads writes rank (i + 1) = rw add-one in
+    e ∙ ap (λ (w : ℕ). declared_mode_of (get_or reads w 0) (get_or writes w 0) rank) p ∙ same
 
 pub lay_entry-end-requires : goal.lay_entry-end-requires
+unfolding rank_bytes entries_of_rank
 lay_entry-end-requires c =
-    let reads = c.args.reads.now in
-    let writes = c.args.writes.now in
+    let parts = c.args.parts.now in
+    let modes = declared_modes parts.may_read.now parts.may_write.now in
     let rank = c.args.rank in
-    let objects = c.args.objects in
-    let k = c.loop-object.object in
-    let m : c.declared_mode.result ≡ declared_modes reads writes rank (k + 1) = c.declared_mode.ensures ∙ rw add-one in
-    let long = rank_more_length (declared_modes reads writes) rank k in
-    let room = rank_grows (declared_modes reads writes) rank (k + 1) objects (omega arith) in
-    rw m (omega arith)
+    let k = c.loop-i.i in
+    let long = rank_more_length modes rank k in
+    let room = rank_grows modes rank (k + 1) parts.counts.objects (omega arith) in
+    rw (next-mode parts.may_read.now parts.may_write.now rank k _ _ c.from-place.ensures c.declared_mode-mode.ensures) (omega arith)
 
-pub loop-object-preserved : goal.loop-object-preserved
-loop-object-preserved c =
-    let reads = c.args.reads.now in
-    let writes = c.args.writes.now in
+pub loop-i-preserved : goal.loop-i-preserved
+unfolding rank_bytes entries_of_rank
+loop-i-preserved c =
+    let parts = c.args.parts.now in
+    let modes = declared_modes parts.may_read.now parts.may_write.now in
     let rank = c.args.rank in
-    let loop = c.loop-object in
-    let k = loop.object in
-    let modes = declared_modes reads writes in
-    let result = c.declared_mode.result in
-    let m : result ≡ modes rank (k + 1) = c.declared_mode.ensures ∙ rw add-one in
-    let room = rank_grows modes rank (k + 1) c.args.objects (omega arith) in
-    let turn =
-    laid_turn c.args.buf.now loop.buf c.lay_entry-end.new.buf c.args.at loop.end
-    (entries_of_rank modes rank k) (entry_bytes rank (k + 1) result) (entries_of_rank modes rank (k + 1))
-    loop.invariant.2 loop.invariant.1 (rank_more modes rank k ∙ ap (λ (n : ℕ). entries_of_rank modes rank k ++ entry_bytes rank (k + 1) n) (sym m)) (omega arith)
-    c.lay_entry-end.ensures.1 in
-    (omega arith, c.lay_entry-end.ensures.0 ∙ turn.0, turn.1, turn.2)
+    let loop = c.loop-i in
+    let k = loop.i in
+    let m = next-mode parts.may_read.now parts.may_write.now rank k _ _ c.from-place.ensures c.declared_mode-mode.ensures in
+    let more = rank_more modes rank k ∙ ap (λ (n : ℕ). entries_of_rank modes rank k ++ entry_bytes rank (k + 1) n) (sym m) in
+    let room = rank_grows modes rank (k + 1) parts.counts.objects (omega arith) in
+    let turn = laid_turn c.args.buf.now _ _ c.args.at _ _ _ _ _ more (omega arith) (loop.invariant.1, loop.invariant.2) c.lay_entry-end.ensures in
+    (omega arith, turn.0, turn.1, turn.2)
+
+pub returns : goal.returns
+unfolding rank_bytes entries_of_rank
+returns c =
+    let parts = c.args.parts.now in
+    let all : c.loop-i.i ≡ parts.counts.objects = omega arith in
+    let entries = ap (entries_of_rank (declared_modes parts.may_read.now parts.may_write.now) c.args.rank) all in
+    (c.loop-i.invariant.1 ∙ ap (λ (l : List ℕ). c.args.at + length l) entries, c.loop-i.invariant.2 ∙ ap (laid c.args.buf.now c.args.at) entries)
