@@ -7,7 +7,7 @@ use Rattle.state.specs.declared.State.{State}
 use Rattle.state.specs.WellFormed.{well_formed}
 use Rattle.state.specs.Facts.{Sized, Facts}
 use Rattle.state.specs.WellFormedFacts.{facts, facts_well_formed}
-use Rattle.state.specs.Holders.{HolderFacts, held_of, well_held}
+use Rattle.state.specs.Holders.{HolderFacts, holder_facts, held_of, well_held}
 use Rattle.events.specs.declared.Outcome.{Outcome}
 use Rattle.events.specs.Keeping.{perform_keeps}
 use Rattle.manager.specs.Step.{step, step_8, step_performs}
@@ -28,6 +28,9 @@ pub record Tested (well : Bool) (s : State) : Type 0 where
 -- what is then known of the locks and their most urgent holder
 pub tested_holders : (s : State) → Tested true s → HolderFacts (held_of s)
 tested_holders s T = well_held s T.sized (sym T.found)
+
+pub tested_facts : (s : State) → Tested true s → HolderFacts s
+tested_facts s T = holder_facts s (facts s T.sized (sym T.found))
 
 pub tested_after : (well : Bool) (s : State) → Tested well s → (k r o : ℕ) → Tested well (step s k r o).state
 tested_after true s T k r o =

@@ -51,6 +51,7 @@ pub fn act_packed(well: bool, state: &mut PartsMut, kind: u8, rank: u8, object: 
 // An event in any state: the test of the state, then the event.
 pub fn act(state: &mut PartsMut, kind: u8, rank: u8, object: u8) -> Answer
     ensures next { outcome result (state_in_mut state.new) ≡ step (state_in_mut state.old) kind rank object }
+    ensures sized { Sized (state_in_mut state.old) }
     ensures same { SamePlaces state.old state.new }
 {
     let well = fits_sized(&state.read());

@@ -1,6 +1,7 @@
--- The state that lent parts are of, and that parts stand where they stood.
+-- The state that lent parts are of, and that they are lent from where they were.
 -- Assumes nothing.
 use Rattle.std.specs.Prelude.{◌≡◌}
+use Rattle.std.proofs.Common.{◌∙◌}
 use Rattle.state.specs.declared.State.{State}
 use Rattle.state.specs.declared.lent.Parts.{Parts}
 use Rattle.state.specs.declared.lent.PartsMut.{PartsMut}
@@ -18,8 +19,12 @@ state_in_mut p =
     state_of p.counts p.processor_of.now p.may_read.now p.may_write.now p.active.now p.unlocked.now p.sleeping.now p.holder.now p.readers.now p.writers.now
     p.certified.now p.request.now
 
--- the parts that may be changed are lent from where they were lent from
+-- the table is as it was, and the parts that may be changed are lent from where they were
 pub record SamePlaces (old new : PartsMut) : Type 0 where
+  pub counts : new.counts ≡ old.counts
+  pub processor_of : new.processor_of ≡ old.processor_of
+  pub may_read : new.may_read ≡ old.may_read
+  pub may_write : new.may_write ≡ old.may_write
   pub active : new.active.ghost_name ≡ old.active.ghost_name
   pub unlocked : new.unlocked.ghost_name ≡ old.unlocked.ghost_name
   pub sleeping : new.sleeping.ghost_name ≡ old.sleeping.ghost_name
@@ -28,3 +33,19 @@ pub record SamePlaces (old new : PartsMut) : Type 0 where
   pub writers : new.writers.ghost_name ≡ old.writers.ghost_name
   pub certified : new.certified.ghost_name ≡ old.certified.ghost_name
   pub request : new.request.ghost_name ≡ old.request.ghost_name
+
+pub places_then : {a b c : PartsMut} → SamePlaces a b → SamePlaces b c → SamePlaces a c
+places_then p q = record {
+  counts = q.counts ∙ p.counts;
+  processor_of = q.processor_of ∙ p.processor_of;
+  may_read = q.may_read ∙ p.may_read;
+  may_write = q.may_write ∙ p.may_write;
+  active = q.active ∙ p.active;
+  unlocked = q.unlocked ∙ p.unlocked;
+  sleeping = q.sleeping ∙ p.sleeping;
+  holder = q.holder ∙ p.holder;
+  readers = q.readers ∙ p.readers;
+  writers = q.writers ∙ p.writers;
+  certified = q.certified ∙ p.certified;
+  request = q.request ∙ p.request;
+}
