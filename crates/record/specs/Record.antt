@@ -2,7 +2,7 @@
 -- Assumes nothing.
 use Rattle.std.specs.Prelude.{ℕ, suc, ◌/◌, ◌%◌, List, [], ◌∷◌, ◌++◌, eqb, length, drop, if◌then◌else◌}
 use Rattle.state.specs.declared.State.{State}
-use Rattle.table.specs.declared.TableRead.{TableRead}
+use Rattle.table.specs.Reading.{TableRead}
 use Rattle.table.specs.Reading.{read_table}
 use Rattle.manager.specs.Step.{step}
 use Rattle.lines.specs.Lines.{header_line, event_line, end_line, short_line, refused_line}

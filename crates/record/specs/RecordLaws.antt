@@ -3,7 +3,7 @@
 use Rattle.std.specs.Prelude.{ℕ, zero, suc, ◌+◌, ◌*◌, ◌≤◌, ◌<◌, ◌≡◌, refl, List, [], ◌∷◌, ◌++◌, length}
 use Rattle.std.proofs.Common.{sym, ap, ◌∙◌, append_assoc, add-zero, arith}
 use Rattle.state.specs.declared.State.{State}
-use Rattle.table.specs.declared.TableRead.{TableRead}
+use Rattle.table.specs.Reading.{TableRead}
 use Rattle.table_bytes.specs.Bytes.{table_length}
 use Rattle.table_bytes.specs.Refusals.{table_refusal}
 use Rattle.table.specs.Reading.{read_table}
