@@ -21,8 +21,8 @@ use Rattle.state.specs.declared.State.{State}
 use Rattle.state.specs.State.{most_objects, read, write, holders, holders_any, all_holders, is_holder, shares_with_none}
 use Rattle.state.specs.Weights.{weight, ceiling_of, write_ceiling_of}
 use Rattle.state.specs.WellFormed.{above_lock, above_locks, in_order, holders_in_order}
-use Rattle.state.specs.WeightLaws.{weighing_of, weighing_ceiling}
-use Rattle.well_formed.specs.Survey.{block_size, reached, only_first, readers_ordered, writers_ordered, object_ordered}
+use Rattle.state.specs.WeightLaws.{weighing_ceiling}
+use Rattle.well_formed.specs.Survey.{block_size, reached, only_first, weighs_by, readers_ordered, writers_ordered, object_ordered}
 
 -- ---- where no holder has to be looked at
 
@@ -45,8 +45,7 @@ first_alone held declared locked d =
 -- any object where there is one holder
 pub one_holder : (held : ℕ) (s : State) (o : ℕ) → is_empty (but_first held) ≡ true → object_ordered held s o ≡ true
 one_holder held s o e =
-    and_true (readers_ordered held s o) (writers_ordered held s o) (lock (at s.may_write o) (at s.readers o))
-    (lock (weighing_of (shares_with_none s o) (at s.may_read o) (at s.may_write o)) (at s.writers o))
+    and_true (readers_ordered held s o) (writers_ordered held s o) (lock (weighs_by false s o) (at s.readers o)) (lock (weighs_by true s o) (at s.writers o))
   where
     lock : (declared locked : ℕ) → only_first held declared locked ≡ true
     lock declared locked = first_alone held declared locked (eq-eqb (bit_and locked (but_first held)) 0 (ap (bit_and locked) (eqb-true (but_first held) 0 e) ∙ and_zero_r locked))
@@ -121,12 +120,10 @@ module _ (s : State) (few : s.counts.jobs ≤ word_bits) (small : all_holders s.
   abbrev held : ℕ
   held = all_holders s.readers s.writers
 
-  -- the ranks whose most urgent one is the ceiling that a read lock on o weighs, with its holder's rank as the cap; and the one that a write lock weighs
-  abbrev reading : ℕ → ℕ
-  reading o = at s.may_write o
-
-  abbrev writing : ℕ → ℕ
-  writing o = weighing_of (shares_with_none s o) (at s.may_read o) (at s.may_write o)
+  -- the mode of a read lock, and of a write lock
+  abbrev mode : Bool → ℕ
+  mode false = read
+  mode true = write
 
   -- nobody, who may be what a lock weighs, is past every job
   below_ceiling : (declared a : ℕ) → a ≤ s.counts.jobs → ltb a (ceiling_of s.counts declared) ≡ ltb a (first word_bits declared)
@@ -135,60 +132,56 @@ module _ (s : State) (few : s.counts.jobs ≤ word_bits) (small : all_holders s.
       (λ t. lt-ltb a (first word_bits declared) (omega (arith, ltb-true a (ceiling_of s.counts declared) t)))
       (λ t. lt-ltb a (ceiling_of s.counts declared) (omega (arith, ltb-true a (first word_bits declared) t)))
 
-  read_weighs : (o a b : ℕ) → a ≤ s.counts.jobs → a < b → ltb a (weight s read b o) ≡ ltb a (first word_bits (reading o))
+  -- a read lock weighs its ceiling with its holder's rank as the cap
+  weighs : (writing : Bool) (o a b : ℕ) → a ≤ s.counts.jobs → a < b → ltb a (weight s (mode writing) b o) ≡ ltb a (first word_bits (weighs_by writing s o))
   unfolding weight
-  read_weighs o a b l h = capped (write_ceiling_of s o) ∙ below_ceiling (reading o) a l
+  weighs false o a b l h = capped (write_ceiling_of s o) ∙ below_ceiling (weighs_by false s o) a l
     where
       capped : (ceiling : ℕ) → ltb a (min ceiling b) ≡ ltb a ceiling
       capped ceiling =
           same_test (ltb a (min ceiling b)) (ltb a ceiling)
           (λ t. lt-ltb a ceiling (omega (arith, ltb-true a (min ceiling b) t))) (λ t. lt-ltb a (min ceiling b) (omega (arith, ltb-true a ceiling t)))
-
-  write_weighs : (o a b : ℕ) → a ≤ s.counts.jobs → a < b → ltb a (weight s write b o) ≡ ltb a (first word_bits (writing o))
-  unfolding weight
-  write_weighs o a b l h = ap (ltb a) (sym (weighing_ceiling s.counts (shares_with_none s o) (at s.may_read o) (at s.may_write o))) ∙ below_ceiling (writing o) a l
-
-  -- whoever holds a lock on an object is among the holders
-  among : (o r : ℕ) → 1 ≤ o → o ≤ most_objects → member (holders_any s o) r ≡ true → is_holder s r ≡ true
-  unfolding all_holders
-  among o r a b m = in_unions most_objects (holders_any s) r o a b m
+  weighs true o a b l h =
+      ap (ltb a) (sym (weighing_ceiling s.counts (shares_with_none s o) (at s.may_read o) (at s.may_write o))) ∙ below_ceiling (weighs_by true s o) a l
 
   -- the law of one lock, for the read locks and the write locks on an object
   module _ (o : ℕ) (low : 1 ≤ o) (high : o ≤ most_objects) where
-    reader : (r : ℕ) → member (holders s read o) r ≡ true → is_holder s r ≡ true
-    reader r m = among o r low high (union_left (holders s read o) (holders s write o) r m)
+    -- whoever holds it is among the holders
+    among : (writing : Bool) (r : ℕ) → member (holders s (mode writing) o) r ≡ true → is_holder s r ≡ true
+    unfolding all_holders
+    among false r m = in_unions most_objects (holders_any s) r o low high (union_left (holders s read o) (holders s write o) r m)
+    among true r m = in_unions most_objects (holders_any s) r o low high (union_right (holders s read o) (holders s write o) r m)
 
-    writer : (r : ℕ) → member (holders s write o) r ≡ true → is_holder s r ≡ true
-    writer r m = among o r low high (union_right (holders s read o) (holders s write o) r m)
-
-    abbrev readers_first : Bool
-    readers_first = only_first held (reading o) (holders s read o)
-
-    abbrev writers_first : Bool
-    writers_first = only_first held (writing o) (holders s write o)
+    abbrev lock_ordered : Bool → Bool
+    lock_ordered writing = only_first held (weighs_by writing s o) (holders s (mode writing) o)
 
     abbrev above_both : ℕ → ℕ → Bool
     above_both a b = above_lock s a b read o && above_lock s a b write o
 
-    ordered_above : readers_first && writers_first ≡ true → (a b : ℕ) → is_holder s a ≡ true → a < b → above_both a b ≡ true
+    ordered_above : lock_ordered false && lock_ordered true ≡ true → (a b : ℕ) → is_holder s a ≡ true → a < b → above_both a b ≡ true
     ordered_above t a b m l =
-        and_true (above_lock s a b read o) (above_lock s a b write o)
-        (first_above s.counts.jobs held (reading o) (holders s read o) (λ r. weight s read r o) few small reader (read_weighs o) (and_left readers_first writers_first t) a b m l)
-        (first_above s.counts.jobs held (writing o) (holders s write o) (λ r. weight s write r o) few small writer (write_weighs o) (and_right readers_first writers_first t) a b m l)
+        and_true (above_lock s a b read o) (above_lock s a b write o) (above_all false (and_left _ _ t)) (above_all true (and_right (lock_ordered false) _ t))
+      where
+        above_all : (writing : Bool) → lock_ordered writing ≡ true → above_lock s a b (mode writing) o ≡ true
+        above_all w t =
+            first_above s.counts.jobs held (weighs_by w s o) (holders s (mode w) o) (λ r. weight s (mode w) r o) few small (among w) (weighs w o) t a b m l
 
-    above_ordered : ((a b : ℕ) → is_holder s a ≡ true → is_holder s b ≡ true → a < b → above_both a b ≡ true) → readers_first && writers_first ≡ true
+    above_ordered : ((a b : ℕ) → is_holder s a ≡ true → is_holder s b ≡ true → a < b → above_both a b ≡ true) → lock_ordered false && lock_ordered true ≡ true
     above_ordered above =
-        and_true readers_first writers_first
-        (above_first s.counts.jobs held (reading o) (holders s read o) (λ r. weight s read r o) few small reader (read_weighs o)
-        (λ a b m k l. and_left (above_lock s a b read o) (above_lock s a b write o) (above a b m k l)))
-        (above_first s.counts.jobs held (writing o) (holders s write o) (λ r. weight s write r o) few small writer (write_weighs o)
-        (λ a b m k l. and_right (above_lock s a b read o) (above_lock s a b write o) (above a b m k l)))
+        and_true (lock_ordered false) (lock_ordered true)
+        (all_above false (λ a b m k l. and_left _ _ (above a b m k l)))
+        (all_above true (λ a b m k l. and_right (above_lock s a b read o) (above_lock s a b write o) (above a b m k l)))
+      where
+        all_above : (writing : Bool) → ((a b : ℕ) → is_holder s a ≡ true → is_holder s b ≡ true → a < b → above_lock s a b (mode writing) o ≡ true)
+            → lock_ordered writing ≡ true
+        all_above w = above_first s.counts.jobs held (weighs_by w s o) (holders s (mode w) o) (λ r. weight s (mode w) r o) few small (among w) (weighs w o)
 
     -- an object without locks is in order
-    unlocked_ordered : holders_any s o ≡ 0 → readers_first && writers_first ≡ true
+    unlocked_ordered : holders_any s o ≡ 0 → lock_ordered false && lock_ordered true ≡ true
     unlocked_ordered e =
         let free = le-union (holders s read o) (holders s write o) in
-        and_true readers_first writers_first (nobody_ordered (reading o) (holders s read o) (omega (arith, free.0))) (nobody_ordered (writing o) (holders s write o) (omega (arith, free.1)))
+        and_true (lock_ordered false) (lock_ordered true) (nobody_ordered (weighs_by false s o) (holders s read o) (omega (arith, free.0)))
+        (nobody_ordered (weighs_by true s o) (holders s write o) (omega (arith, free.1)))
       where
         nobody_ordered : (declared locked : ℕ) → locked ≡ 0 → only_first held declared locked ≡ true
         nobody_ordered declared locked z =

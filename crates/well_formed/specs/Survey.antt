@@ -1,6 +1,6 @@
 -- What the code gathers for the test of a state: of one object, of many objects together, of those outside the table, of the certified objects, and of one request.
 -- Assumes nothing.
-use Rattle.std.specs.Prelude.{ℕ, ◌+◌, ◌*◌, ◌/◌, ◌≡◌, Bool, true, not, ◌&&◌, ◌||◌, eqb, if◌then◌else◌}
+use Rattle.std.specs.Prelude.{ℕ, ◌+◌, ◌*◌, ◌/◌, ◌≡◌, Bool, true, false, not, ◌&&◌, ◌||◌, eqb, if◌then◌else◌}
 use Rattle.basics.specs.Loops.{every}
 use Rattle.basics.specs.Arrays.{at}
 use Rattle.ranks.specs.Ranks.{is_empty, member, union, minus, but_first, subset, disjoint, at_most_one, before, unions}
@@ -74,12 +74,16 @@ reached held declared = minus held (before declared)
 abbrev pub only_first : (held declared holders : ℕ) → Bool
 only_first held declared holders = disjoint holders (but_first (reached held declared))
 
+-- the ranks whose most urgent one is the ceiling that a lock on object o weighs, a write lock or a read lock
+abbrev pub weighs_by : (writing : Bool) → State → ℕ → ℕ
+weighs_by writing s o = if writing then weighing_of (shares_with_none s o) (at s.may_read o) (at s.may_write o) else at s.may_write o
+
 -- of object o: its readers, and its writers, are in order with the holders
 abbrev pub readers_ordered : (held : ℕ) → State → ℕ → Bool
-readers_ordered held s o = only_first held (at s.may_write o) (at s.readers o)
+readers_ordered held s o = only_first held (weighs_by false s o) (at s.readers o)
 
 abbrev pub writers_ordered : (held : ℕ) → State → ℕ → Bool
-writers_ordered held s o = only_first held (weighing_of (shares_with_none s o) (at s.may_read o) (at s.may_write o)) (at s.writers o)
+writers_ordered held s o = only_first held (weighs_by true s o) (at s.writers o)
 
 abbrev pub object_ordered : (held : ℕ) → State → ℕ → Bool
 object_ordered held s o = readers_ordered held s o && writers_ordered held s o

@@ -1,13 +1,14 @@
 // What refusal 8 asks of the holders among themselves: of two, the more urgent one is more urgent than every weight that the other holds.
-ghost use Rattle.std.specs.Prelude.{◌≡◌, ◌+◌, ◌≤◌};
+ghost use Rattle.std.specs.Prelude.{◌≡◌, ◌+◌, ◌≤◌, ◌<◌};
+ghost use Rattle.basics.specs.Arrays.{at};
 ghost use Rattle.basics.specs.Loops.{every};
 ghost use Rattle.ranks.specs.Ranks.{is_empty, but_first};
 ghost use Rattle.state.specs.State.{most_objects};
 ghost use Rattle.state.specs.Lent.{state_in};
-ghost use Rattle.well_formed.specs.Survey.{block_size, in_blocks, reached, readers_ordered, writers_ordered, object_ordered};
+ghost use Rattle.well_formed.specs.Survey.{block_size, in_blocks, reached, only_first, weighs_by, object_ordered};
 
 use ranks::{EMPTY, RankSet, union};
-use state::{Parts, union_of, weighing};
+use state::{Parts, Sets, union_of, weighing};
 
 // Of the holders, those that a ceiling of the declared ranks reaches, but the most urgent of them: the ranks that may not hold a lock that weighs this ceiling.
 fn reached_later(held: RankSet, declared: RankSet) -> RankSet
@@ -16,46 +17,44 @@ fn reached_later(held: RankSet, declared: RankSet) -> RankSet
     ranks::but_first(ranks::minus(held, ranks::before(declared)))
 }
 
-// Empty if the readers of each object of the block from an index on are in order with the holders. They are looked at only where one of them is not the
-// most urgent holder.
-fn readers_wrong(parts: &Parts, held: RankSet, from: usize) -> RankSet
-    requires { from + block_size ≤ most_objects }
-    ensures { is_empty result ≡ every block_size (λ k. readers_ordered held (state_in parts.now) (from + k)) }
+// The ranks whose most urgent one is the ceiling that a lock on the object at an index weighs, a write lock or a read lock.
+fn weighs_by<const WRITING: bool>(parts: &Parts, i: usize) -> RankSet
+    requires { i < most_objects }
+    ensures { result ≡ weighs_by WRITING (state_in parts.now) (i + 1) }
 {
-    let later = ranks::but_first(held);
-    if ranks::is_empty(ranks::common(union_of(parts.readers, from, 8), later)) {
-        return EMPTY;
-    }
-    let mut wrong = EMPTY;
-    for k in 0..8 {
-        let i = from + k;
-        let later = reached_later(held, parts.may_write[i]);
-        wrong = union(wrong, ranks::common(parts.readers[i], later));
-    }
-    wrong
-}
-
-// The same of the writers.
-fn writers_wrong(parts: &Parts, held: RankSet, from: usize) -> RankSet
-    requires { from + block_size ≤ most_objects }
-    ensures { is_empty result ≡ every block_size (λ k. writers_ordered held (state_in parts.now) (from + k)) }
-{
-    let later = ranks::but_first(held);
-    if ranks::is_empty(ranks::common(union_of(parts.writers, from, 8), later)) {
-        return EMPTY;
-    }
-    let mut wrong = EMPTY;
-    for k in 0..8 {
-        let i = from + k;
-        let declared = weighing(
+    if WRITING {
+        weighing(
             parts.counts.version,
             parts.certified,
             parts.may_read[i],
             parts.may_write[i],
             (i + 1) as u8,
-        );
-        let later = reached_later(held, declared);
-        wrong = union(wrong, ranks::common(parts.writers[i], later));
+        )
+    } else {
+        parts.may_write[i]
+    }
+}
+
+// Empty if the holders of these locks, write locks or read locks, on each object of the block from an index on are in order with all holders. They are looked
+// at only where one of them is not the most urgent holder.
+fn locks_wrong<const WRITING: bool>(
+    parts: &Parts,
+    locks: Sets,
+    held: RankSet,
+    from: usize,
+) -> RankSet
+    requires { from + block_size ≤ most_objects }
+    ensures { is_empty result ≡ every block_size (λ k. only_first held (weighs_by WRITING (state_in parts.now) (from + k)) (at locks.entry.now (from + k))) }
+{
+    let later = ranks::but_first(held);
+    if ranks::is_empty(ranks::common(union_of(locks, from, 8), later)) {
+        return EMPTY;
+    }
+    let mut wrong = EMPTY;
+    for k in 0..8 {
+        let i = from + k;
+        let later = reached_later(held, weighs_by::<WRITING>(parts, i));
+        wrong = union(wrong, ranks::common(locks[i], later));
     }
     wrong
 }
@@ -71,8 +70,8 @@ pub fn holders_in_order(parts: &Parts, held: RankSet) -> bool
     let mut wrong = EMPTY;
     for block in 0..(parts.counts.objects as usize + 7) / 8 {
         let from = block * 8;
-        let reading = readers_wrong(parts, held, from);
-        let writing = writers_wrong(parts, held, from);
+        let reading = locks_wrong::<false>(parts, parts.readers, held, from);
+        let writing = locks_wrong::<true>(parts, parts.writers, held, from);
         wrong = union(wrong, union(reading, writing));
     }
     ranks::is_empty(wrong)

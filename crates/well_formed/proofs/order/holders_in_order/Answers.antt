@@ -28,8 +28,8 @@ loop-block-preserved c =
     let i = c.loop-block.block * block_size in
     let next : i + block_size ≡ (c.loop-block.block + 1) * block_size = omega arith in
     ap is_empty (c.union-wrong.ensures ∙ ap (union c.loop-block.wrong) c.union.ensures)
-    ∙ ordered_more i c.loop-block.wrong c.readers_wrong-reading.result c.writers_wrong-writing.result (readers_ordered held s) (writers_ordered held s) c.loop-block.invariant
-    c.readers_wrong-reading.ensures c.writers_wrong-writing.ensures
+    ∙ ordered_more i c.loop-block.wrong c.locks_wrong-reading.result c.locks_wrong-writing.result (readers_ordered held s) (writers_ordered held s) c.loop-block.invariant
+    c.locks_wrong-reading.ensures c.locks_wrong-writing.ensures
     ∙ ap (λ (n : ℕ). every n (object_ordered held s)) next
 
 pub returns : goal.returns
