@@ -1,7 +1,8 @@
 // Where the parts of table bytes stand.
 ghost use Rattle.std.specs.Prelude.{◌≡◌, true, ◌+◌, ◌*◌, ◌≤◌, ◌<◌, length};
 ghost use Rattle.state.specs.State.{is_version};
-ghost use Rattle.table_bytes.specs.Bytes.{version_in, word, counts_in, entry_count, entries_start, table_length, entry_start, entry_rank, entry_object, entry_mode, order};
+ghost use Rattle.table_bytes.specs.Bytes.{word, version_in, counts_in, entry_count, entries_start, table_length};
+ghost use Rattle.table_bytes.specs.Bytes.{entry_start, entry_rank, entry_object, entry_mode, order};
 
 use state::Counts;
 

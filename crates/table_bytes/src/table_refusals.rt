@@ -1,5 +1,5 @@
 // The refusals of table bytes, in document 01's order.
-ghost use Rattle.std.specs.Prelude.{◌≡◌, ◌&&◌, ◌+◌, ◌*◌, ◌≤◌, ◌<◌, length};
+ghost use Rattle.std.specs.Prelude.{◌≡◌, ◌&&◌, ◌+◌, ◌*◌, ◌≤◌, length};
 ghost use Rattle.basics.specs.Choice.{between};
 ghost use Rattle.state.specs.RefusalNumbers.{refusal_number};
 ghost use Rattle.state.specs.State.{is_version};

@@ -34,7 +34,8 @@ loop-k-preserved c =
     let loop = c.loop-k in
     let k = loop.k in
     let room = ranks_grow modes objects (k + 1) parts.counts.jobs (omega arith) in
-    let turn = laid_turn c.args.buf.now _ _ c.args.at _ _ _ _ _ (ranks_more modes objects k) (omega arith) (loop.invariant.1, loop.invariant.2) c.lay_rank-end.ensures in
+    let more = ranks_more modes objects k in
+    let turn = laid_turn c.args.buf.now _ _ c.args.at _ _ _ _ _ more (omega arith) (loop.invariant.1, loop.invariant.2) c.lay_rank-end.ensures in
     (omega arith, turn.0, turn.1, turn.2)
 
 pub returns : goal.returns
@@ -42,4 +43,5 @@ unfolding entries_bytes rank_bytes entries_of_ranks entries_of_rank
 returns c =
     let parts = c.args.parts.now in
     let all : c.loop-k.k ≡ parts.counts.jobs = omega arith in
-    c.loop-k.invariant.2 ∙ ap (λ n. laid c.args.buf.now c.args.at (entries_of_ranks (declared_modes parts.may_read.now parts.may_write.now) parts.counts.objects n)) all
+    let modes = declared_modes parts.may_read.now parts.may_write.now in
+    c.loop-k.invariant.2 ∙ ap (λ n. laid c.args.buf.now c.args.at (entries_of_ranks modes parts.counts.objects n)) all

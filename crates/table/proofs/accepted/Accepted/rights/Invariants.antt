@@ -9,4 +9,5 @@ use Rattle.table.specs.Reading.{declared_in}
 use Rattle.table.proofs.accepted.Accepted.rights.Given as goal
 
 abbrev pub invariant-loop-k : goal.invariant-loop-k
-invariant-loop-k l = (l.k ≤ entry_count l.self.bytes.now) × (l.may_read ≡ declared_in read l.self.bytes.now l.k) × (l.may_write ≡ declared_in write l.self.bytes.now l.k)
+invariant-loop-k l =
+    (l.k ≤ entry_count l.self.bytes.now) × (l.may_read ≡ declared_in read l.self.bytes.now l.k) × (l.may_write ≡ declared_in write l.self.bytes.now l.k)
