@@ -13,7 +13,7 @@ use Rattle.std.proofs.lemmas.List.{drop-append-le}
 use borrow.Author.Tests.{eq-eqb, ne_eqb}
 use Rattle.state.specs.declared.State.{State}
 use Rattle.table_bytes.specs.Bytes.{table_length}
-use Rattle.table.specs.declared.TableRead.{TableRead}
+use Rattle.table.specs.Reading.{TableRead}
 use Rattle.table.specs.Reading.{read_table}
 use Rattle.table.specs.Fresh.{read_refusal, read_accepted, read_refused}
 use Rattle.table.specs.Decided.{table_decided}

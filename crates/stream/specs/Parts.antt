@@ -5,7 +5,7 @@
 -- Assumes nothing.
 use Rattle.std.specs.Prelude.{ℕ, suc, ◌+◌, ◌*◌, ◌/◌, ◌-◌, ◌^◌, min, ◌≡◌, List, [], ◌∷◌, ◌++◌, eqb, length, take, drop, if◌then◌else◌}
 use Rattle.state.specs.declared.Counts.{Counts}
-use Rattle.table.specs.declared.TableRead.{TableRead}
+use Rattle.table.specs.Reading.{TableRead}
 use Rattle.table.specs.Reading.{refused_read, read_table}
 use Rattle.lines.specs.Lines.{header_line, end_line, short_line, refused_line}
 use Rattle.decimals.specs.Laid.{Laid}

@@ -4,13 +4,14 @@
 ghost use Rattle.std.specs.Prelude.{◌≡◌, ◌+◌, ◌*◌, ◌/◌, ◌-◌, ◌^◌, ◌≤◌, ◌<◌, min, length};
 ghost use Rattle.decimals.specs.Laid.{Laid};
 ghost use Rattle.lines.specs.Lines.{LineLaid};
+ghost use Rattle.state.specs.State.{zero_state};
 ghost use Rattle.table.specs.Reading.{read_table};
 ghost use Rattle.stream.specs.Parts.{unread, opening_line, opening, answering, advance, most_lines, last_line_of, Advances};
 
-use basics::smaller;
 use lines::{LineBuffer, lay_end, lay_header, lay_refused, lay_short};
 use record::lay_events;
-use state::{Counts, State};
+use state::{PartsMut, State, zero_state};
+use table::TableRead;
 
 // How far the input is read. The refusal is 1 as long as the table may still be incomplete, 0 behind a table that was accepted, its
 // number behind one that was refused. Then how many events were answered, and the state behind them.
@@ -33,17 +34,14 @@ pub struct Advanced {
 fn most_lines(room: usize, events: u64) -> usize
     ensures { result ≡ min (room / 45) (2 ^ 64 - 1 - events) }
 {
-    smaller(room / 45, (18446744073709551615 - events) as usize)
+    (room / 45).min((u64::MAX - events) as usize)
 }
 
-// Lays the line that the table decides, none as long as it may be incomplete. Answers its length.
-fn lay_opening(lines: &mut [u8], refusal: u8, counts: Counts) -> usize
-    requires { 45 ≤ length lines.old }
-    ensures { Laid lines.old lines.new 0 result 45 (opening_line refusal counts) }
+// Lays the line of a refused table, none as long as it may be incomplete. Answers its length.
+fn lay_refusal(lines: &mut [u8], refusal: u8) -> usize
+    requires { (45 ≤ length lines.old) × (1 ≤ refusal) }
+    ensures { Laid lines.old lines.new 0 result 45 (opening_line refusal zero_state.counts) }
 {
-    if refusal == 0 {
-        return lay_header(lines, counts);
-    }
     if refusal == 1 {
         return 0;
     }
@@ -55,18 +53,25 @@ fn open_table(bytes: &[u8], lines: &mut [u8]) -> Advanced
     requires { 45 ≤ length lines.old }
     ensures { Advances result (opening (read_table bytes.now)) 45 lines.old lines.new }
 {
-    let read = table::read_table(bytes);
-    let state = read.state;
-    let laid = lay_opening(lines, read.refusal, state.counts);
-    let bench = Bench {
-        refusal: read.refusal,
-        events: 0,
-        state,
-    };
-    Advanced {
-        bench,
-        used: read.used,
-        laid,
+    match table::read_table(bytes) {
+        Ok(TableRead { used, state }) => Advanced {
+            laid: lay_header(lines, state.counts),
+            used,
+            bench: Bench {
+                refusal: 0,
+                events: 0,
+                state,
+            },
+        },
+        Err(refusal) => Advanced {
+            laid: lay_refusal(lines, refusal.number()),
+            used: 0,
+            bench: Bench {
+                refusal: refusal.number(),
+                events: 0,
+                state: zero_state(),
+            },
+        },
     }
 }
 
@@ -75,42 +80,23 @@ fn answer(bench: Bench, count: usize, bytes: &[u8], lines: &mut [u8]) -> Advance
     requires { (3 * count ≤ length bytes.now) × (45 * count ≤ length lines.old) × (bench.events + count < 2 ^ 64) }
     ensures { Advances result (answering count bench bytes.now) 45 lines.old lines.new }
 {
-    let state = bench.state;
-    let mut active = state.active;
-    let mut unlocked = state.unlocked;
-    let mut sleeping = state.sleeping;
-    let mut holder = state.holder;
-    let mut readers = state.readers;
-    let mut writers = state.writers;
-    let mut certified = state.certified;
-    let mut request = state.request;
+    let mut next = bench.state;
+    let mut parts = PartsMut {
+        counts: next.counts,
+        processor_of: &next.processor_of,
+        may_read: &next.may_read,
+        may_write: &next.may_write,
+        active: &mut next.active,
+        unlocked: &mut next.unlocked,
+        sleeping: &mut next.sleeping,
+        holder: &mut next.holder,
+        readers: &mut next.readers,
+        writers: &mut next.writers,
+        certified: &mut next.certified,
+        request: &mut next.request,
+    };
     let used = 3 * count;
-    let laid = lay_events(
-        state.counts,
-        &state.processor_of,
-        &state.may_read,
-        &state.may_write,
-        &mut active,
-        &mut unlocked,
-        &mut sleeping,
-        &mut holder,
-        &mut readers,
-        &mut writers,
-        &mut certified,
-        &mut request,
-        lines,
-        bench.events,
-        &bytes[..used],
-    );
-    let mut next = state;
-    next.active = active;
-    next.unlocked = unlocked;
-    next.sleeping = sleeping;
-    next.holder = holder;
-    next.readers = readers;
-    next.writers = writers;
-    next.certified = certified;
-    next.request = request;
+    let laid = lay_events(&mut parts, lines, bench.events, &bytes[..used]);
     let after = Bench {
         refusal: 0,
         events: bench.events + count as u64,
@@ -127,26 +113,7 @@ fn answer(bench: Bench, count: usize, bytes: &[u8], lines: &mut [u8]) -> Advance
 pub fn unread() -> Bench
     ensures { result ≡ unread }
 {
-    let counts = Counts {
-        version: 0,
-        processors: 0,
-        jobs: 0,
-        objects: 0,
-    };
-    let state = State {
-        counts,
-        processor_of: [0; 64],
-        may_read: [0; 128],
-        may_write: [0; 128],
-        active: ranks::EMPTY,
-        unlocked: ranks::EMPTY,
-        sleeping: ranks::EMPTY,
-        holder: 0,
-        readers: [0; 128],
-        writers: [0; 128],
-        certified: [0; 2],
-        request: [0; 64],
-    };
+    let state = zero_state();
     Bench {
         refusal: 1,
         events: 0,
@@ -166,7 +133,7 @@ pub fn advance(bench: Bench, bytes: &[u8], lines: &mut [u8]) -> Advanced
             return open_table(bytes, lines);
         }
         if bench.refusal == 0 {
-            let count = smaller(most, bytes.len() / 3);
+            let count = most.min(bytes.len() / 3);
             return answer(bench, count, bytes, lines);
         }
     }

@@ -26,7 +26,7 @@ returns-then-bench-eq0 c =
     let bytes : List ℕ = c.args.bytes.now in
     let most : ℕ = most_lines (length c.args.lines.now) r in
     let some : 1 ≤ most = omega (arith, c.most_lines-most.ensures, c.if-most-ne0.true) in
-    let count = c.smaller-count.ensures ∙ ap (λ (n : ℕ). min n (length bytes / 3)) c.most_lines-most.ensures in
+    let count = c.min-count.ensures ∙ ap (λ (n : ℕ). min n (length bytes / 3)) c.most_lines-most.ensures in
     advances_is c.answer.ensures (advance_events most r bytes some c.if-bench-eq0.true ∙ ap (λ (n : ℕ). answering n r bytes) (sym count))
 
 pub returns-else-bench-eq0 : goal.returns-else-bench-eq0
