@@ -38,8 +38,8 @@ pub enum RecordError {
 impl From<Error> for RecordError {
     ghost from_gives = { λ _ e. e ≡ RecordError.NotRead };
 
-    fn from(_error: Error) -> RecordError {
-        RecordError::NotRead
+    fn from(_error: Error) -> Self {
+        Self::NotRead
     }
 }
 
@@ -49,8 +49,8 @@ impl RecordError {
         ensures { result.now ≡ failure_line (failure_of (Err self)) }
     {
         match self {
+            RecordError::NotRead | RecordError::TooLong => b"bench: the input cannot be read\n",
             RecordError::NotWritten => b"bench: the record cannot be written\n",
-            RecordError::TooLong | RecordError::NotRead => b"bench: the input cannot be read\n",
         }
     }
 }
