@@ -4,8 +4,8 @@ use Rattle.std.proofs.Common.{take, sym, ◌∙◌, arith, length-take-le}
 use Rattle.table_bytes.specs.Decided.{cut_short}
 use Rattle.loader.proofs.read_bytes.Goals as goal
 
-pub read_part-part-requires : goal.read_part-part-requires
-read_part-part-requires g c =
+pub read_part-requires : goal.read_part-requires
+read_part-requires g c =
     let held = c.loop-from.held in
     let bytes = c.loop-from.bytes in
     omega (arith, cut_short (take held bytes) (sym c.table_refusal.ensures ∙ c.loop-from-test.true), length-take-le held bytes c.loop-from.invariant.0, c.loop-from.invariant, c.requires)
