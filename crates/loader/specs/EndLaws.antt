@@ -2,8 +2,7 @@
 -- Assumes nothing.
 use Rattle.std.specs.Prelude.{ℕ, ◌≤◌, ◌≡◌, List, length, take, Option, Some, None, Result, Ok, Err}
 use Rattle.std.proofs.Common.{sym, subst}
-use Rattle.table.specs.declared.TableRead.{TableRead}
-use Rattle.table.specs.Reading.{read_table}
+use Rattle.table.specs.Reading.{TableRead, read_table}
 use Rattle.loader.specs.declared.LoadError.{LoadError}
 use Rattle.loader.specs.declared.Loaded.{Loaded}
 use Rattle.loader.specs.Loading.{Parts, LoadsBy, Loads, Unstarted, LoadsTexts}

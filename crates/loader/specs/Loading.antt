@@ -1,10 +1,10 @@
 -- What the program that writes a test load leaves in memory, and how it ends. What `read` and `write` moved no contract can say.
 -- Assumes nothing.
-use Rattle.std.specs.Prelude.{ℕ, zero, suc, ◌*◌, ◌-◌, ◌^◌, ◌≤◌, min, ◌≡◌, ◌≢◌, ◌⊎◌, List, [], length, take, Option, Some, None, Result, Ok, Err, OnErr, MatchResult}
+use Rattle.std.specs.Prelude.{ℕ, zero, suc, ◌*◌, ◌-◌, ◌^◌, ◌≤◌, min, ◌≡◌, ◌⊎◌, List, [], length, take, Option, Some, None, Result, Ok, Err, OnErr, MatchResult}
 use Rattle.state.specs.declared.Counts.{Counts}
+use Rattle.state.specs.RefusalNumbers.{number}
 use Rattle.table_bytes.specs.Refusals.{table_refusal}
-use Rattle.table.specs.declared.TableRead.{TableRead}
-use Rattle.table.specs.Reading.{read_table}
+use Rattle.table.specs.Reading.{TableRead, read_table}
 use Rattle.decimals.specs.Laid.{at_front}
 use Rattle.generator.specs.Load.{seed_after, load}
 use Rattle.arguments.specs.Numbers.{number_in}
@@ -61,7 +61,7 @@ LoadsBy (Ok whole) r seed count read events events' =
     (read.refusal ≡ 0) × (r.made ≡ count) × AfterParts read.state.counts seed count r.made r.seed events events'
 LoadsBy (Err LoadError.NotWritten) r seed count read events events' =
     (read.refusal ≡ 0) × AfterParts read.state.counts seed count r.made r.seed events events'
-LoadsBy (Err (LoadError.Refused n)) r seed count read events events' = (read.refusal ≡ n) × (n ≢ 0) × NoneMade r seed events events'
+LoadsBy (Err (LoadError.Refused refusal)) r seed count read events events' = (read.refusal ≡ number refusal) × NoneMade r seed events events'
 LoadsBy (Err LoadError.NotRead) r seed count read events events' = (read.refusal ≡ 1) × NoneMade r seed events events'
 LoadsBy (Err LoadError.NotTwo) r seed count read events events' = ⊥
 LoadsBy (Err LoadError.BadSeed) r seed count read events events' = ⊥

@@ -10,7 +10,7 @@ ghost use Rattle.loader.specs.Loading.{part_events, most_seed, most_count, ReadB
 
 use arguments::{argument, number_in};
 use descriptors::read_part;
-use state::State;
+use state::{Refusal, State};
 use std::env::Env;
 use std::io::{Error, Input, Read};
 use table_bytes::table_refusal;
@@ -38,7 +38,7 @@ pub enum LoadError {
     BadSeed,
     BadCount,
     NotRead,
-    Refused(u8),
+    Refused(Refusal),
     NotWritten,
 }
 
@@ -47,6 +47,14 @@ impl From<Error> for LoadError {
 
     fn from(_error: Error) -> Self {
         Self::NotRead
+    }
+}
+
+impl From<Refusal> for LoadError {
+    ghost from_gives = { λ refusal e. e ≡ LoadError.Refused refusal };
+
+    fn from(refusal: Refusal) -> Self {
+        Self::Refused(refusal)
     }
 }
 
@@ -81,7 +89,7 @@ fn read_bytes<R: Read>(
     requires { (longest_table ≤ length bytes.old) × (held.old ≡ 0) }
     ensures { ReadBytes result held.new bytes.old bytes.new }
 {
-    while table_refusal(&bytes[..*held]) == 1 {
+    while let Err(Refusal::TableCut) = table_refusal(&bytes[..*held]) {
         let Some(count) = read_part(from, most, bytes, *held)? else {
             break;
         };
@@ -104,8 +112,8 @@ fn write_parts(
 {
     while loaded.made < count {
         let n = PART_EVENTS.min(count - loaded.made);
-        let part = generator::make_events(state, loaded.seed, n, events);
-        loaded.seed = part.seed;
+        let made = generator::make_events(state, loaded.seed, n, events);
+        loaded.seed = made.unwrap_or(loaded.seed);
         loaded.made += n;
         if !io::write_all(to, &events[..3 * n]) {
             return Err(LoadError::NotWritten);
@@ -134,10 +142,7 @@ fn load<R: Read>(
     let count = number_in(count_text, u64::MAX).ok_or(LoadError::BadCount)?;
     loaded.seed = seed as u32;
     read_bytes(from, most, table, &mut loaded.held)?;
-    let read = table::read_table(&table[..loaded.held]);
-    if read.refusal != 0 {
-        return Err(LoadError::Refused(read.refusal));
-    }
+    let read = table::read_table(&table[..loaded.held])?;
     write_parts(to, read.state, count as usize, events, loaded)
 }
 
@@ -150,9 +155,9 @@ fn report(errors: i32, error: LoadError) {
             b"load: the count is not a decimal number from 0 to 18446744073709551615\n"
         }
         LoadError::NotRead => b"load: the table cannot be read\n",
-        LoadError::Refused(number) => {
+        LoadError::Refused(refusal) => {
             io::write_all(errors, b"load: the table is refused by ");
-            io::print_decimal(errors, number as u64);
+            io::print_decimal(errors, refusal.number() as u64);
             b"\n"
         }
         LoadError::NotWritten => b"load: the events cannot be written\n",

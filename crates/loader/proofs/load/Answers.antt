@@ -3,7 +3,7 @@
 use Rattle.std.proofs.Common.{◌≡◌, ℕ, Result, Err, refl, sym, ap, ap₂, ◌∙◌, arith, rules}
 use Rattle.arguments.specs.Numbers.{value_at_most}
 use Rattle.state.specs.WellFormed.{well_formed}
-use Rattle.table.specs.declared.TableRead.{TableRead}
+use Rattle.table.specs.Reading.{TableRead}
 use Rattle.table.specs.Fresh.{read_refusal, read_well_formed}
 use Rattle.loader.specs.declared.LoadError.{LoadError}
 use Rattle.loader.specs.Loading.{most_seed}
@@ -26,6 +26,6 @@ returns-in_err-read_bytes g c =
 
 pub write_parts-requires : goal.write_parts-requires
 write_parts-requires g c =
-    let is = c.read_table-read.ensures in
-    let ok = ap (λ (t : TableRead). t.refusal) (sym is) ∙ c.if-read-ne0.false in
+    let is = c.in_ok-read.ensures in
+    let ok = ap (λ (t : TableRead). t.refusal) (sym is) in
     (ap (λ (t : TableRead). well_formed t.state) is ∙ read_well_formed _ ok, c.requires.room.1, c.requires.unstarted.1)

@@ -1,7 +1,9 @@
 -- `loader::write_parts` meets its contract: a turn makes one part more, which the generator does not refuse.
 -- Assumes nothing.
-use Rattle.std.proofs.Common.{refl, arith}
-use Rattle.loader.specs.LoadingLaws.{after_none, made_room, after_made}
+use Rattle.std.proofs.Common.{ℕ, ◌+◌, refl, sym, subst, ◌∙◌, arith}
+use Rattle.generator.specs.Load.{made_of}
+use Rattle.loader.specs.Loading.{AfterParts}
+use Rattle.loader.specs.LoadingLaws.{after_none, seed_gone_on, made_room, after_made}
 use Rattle.loader.proofs.write_parts.Goals as goal
 
 pub loop-loaded-init : goal.loop-loaded-init
@@ -13,8 +15,10 @@ returns-then-not-write_all-clause-parts c =
     let done = c.loop-loaded.invariant in
     record {
       after_parts =
-          after_made c.args.state c.args.loaded.now.seed c.args.count c.loop-loaded.loaded.made c.loop-loaded.loaded.seed c.min-n.result c.args.events.now
-          c.loop-loaded.events _ c.make_events-part.result c.requires.0 done.size c.loop-loaded-test.true (omega arith) c.make_events-part.ensures done.after_parts;
+          subst (λ (next : ℕ). AfterParts c.args.state.counts c.args.loaded.now.seed c.args.count (c.loop-loaded.loaded.made + c.min-n.result) next c.args.events.now c.make_events-made.new.buf)
+          (sym (c.unwrap_or-loaded.ensures ∙ seed_gone_on c.loop-loaded.loaded.seed c.make_events-made.result))
+          (after_made c.args.state c.args.loaded.now.seed c.args.count c.loop-loaded.loaded.made c.loop-loaded.loaded.seed c.min-n.result c.args.events.now
+          c.loop-loaded.events _ (made_of c.loop-loaded.loaded.seed c.make_events-made.result) c.requires.0 done.size c.loop-loaded-test.true (omega arith) c.make_events-made.ensures done.after_parts);
       whole = refl;
     }
 
@@ -25,9 +29,11 @@ loop-loaded-preserved c =
       within = omega arith;
       size =
           made_room c.args.state c.args.loaded.now.seed c.args.count c.loop-loaded.loaded.made c.loop-loaded.loaded.seed c.min-n.result c.args.events.now
-          c.loop-loaded.events _ c.make_events-part.result c.requires.0 done.size c.loop-loaded-test.true (omega arith) c.make_events-part.ensures;
+          c.loop-loaded.events _ (made_of c.loop-loaded.loaded.seed c.make_events-made.result) c.requires.0 done.size c.loop-loaded-test.true (omega arith) c.make_events-made.ensures;
       after_parts =
-          after_made c.args.state c.args.loaded.now.seed c.args.count c.loop-loaded.loaded.made c.loop-loaded.loaded.seed c.min-n.result c.args.events.now
-          c.loop-loaded.events _ c.make_events-part.result c.requires.0 done.size c.loop-loaded-test.true (omega arith) c.make_events-part.ensures done.after_parts;
+          subst (λ (next : ℕ). AfterParts c.args.state.counts c.args.loaded.now.seed c.args.count (c.loop-loaded.loaded.made + c.min-n.result) next c.args.events.now c.make_events-made.new.buf)
+          (sym (c.unwrap_or-loaded.ensures ∙ seed_gone_on c.loop-loaded.loaded.seed c.make_events-made.result))
+          (after_made c.args.state c.args.loaded.now.seed c.args.count c.loop-loaded.loaded.made c.loop-loaded.loaded.seed c.min-n.result c.args.events.now
+          c.loop-loaded.events _ (made_of c.loop-loaded.loaded.seed c.make_events-made.result) c.requires.0 done.size c.loop-loaded-test.true (omega arith) c.make_events-made.ensures done.after_parts);
       held = done.held;
     }
