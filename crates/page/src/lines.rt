@@ -92,6 +92,7 @@ fn lay_line(line: &mut [u8], fields: Fields)
 }
 
 // The rank's line, which fills the lent part.
+#[tactic(auto, using(basics::specs::Arrays::at_index), unfolding(crate::specs::Parts::line_by))]
 fn lay_rank(line: &mut [u8], parts: &Parts, named: &JobLocks, running: &ProcessorRanks, rank: u8)
     requires { (length line.old ≡ 21) × (1 ≤ rank) × (rank ≤ most_jobs) × (parts.now.counts.jobs ≤ most_jobs)
         × (at parts.now.processor_of.now rank < most_processors) }
