@@ -1,14 +1,13 @@
 -- `page::lines::lay_lines` meets its contract. The loop's invariant: the lines of the ranks passed stand at the front, up to `end`, and the bytes behind are as
 -- they were. A turn lays the line of an active rank into the 21 bytes behind them.
 -- Assumes nothing.
-use mathlib.Core.Path.{◌≡◌, refl, sym, ap, ◌∙◌}
+use mathlib.Core.Path.{◌≡◌, sym, ap, ◌∙◌}
 use mathlib.Core.Bool.{true}
 use mathlib.Core.List.{List, ◌++◌}
 use Prim.Native.Nat.{ℕ, ◌≤◌, ◌<◌, ◌-◌, ◌+◌}
 use native.Mathlib.Omega.{arith}
 use lib.ListN.{length, take, drop, length-append}
 use Rattle.basics.specs.Arrays.{at}
-use Rattle.basics.specs.Loops.{joined}
 use Rattle.ranks.specs.Ranks.{member}
 use Rattle.state.specs.State.{most_processors}
 use Rattle.state.specs.Clauses.{Within}
@@ -54,10 +53,6 @@ module _ (p : Parts) (named running buffer : List ℕ) (n : ℕ) (within : Withi
 
   pub stops : (end : ℕ) → end ≡ length (lines n) → end + 21 ≡ length (lines (n + 1))
   stops end e = omega (arith, e, both)
-
-pub loop-before-init : goal.loop-before-init
-unfolding lines_by joined
-loop-before-init c = (search rules, refl, refl, refl)
 
 pub slice_bounds-lay_rank-end : goal.slice_bounds-lay_rank-end
 slice_bounds-lay_rank-end c =
