@@ -5,9 +5,7 @@ use Rattle.state.specs.declared.State.{State}
 use Rattle.state.specs.Weights.{write_ceiling_of, absolute_ceiling_of}
 use Rattle.rule.specs.Granting.{named_holder_of, named_object_of}
 use Rattle.inheritance.specs.Running as R
-use Rattle.questions.specs.declared.RankAnswer.{RankAnswer}
-use Rattle.questions.specs.declared.NamedAnswer.{NamedAnswer}
-use Rattle.questions.specs.declared.CeilingsAnswer.{CeilingsAnswer}
+use Rattle.questions.specs.Answers.{RankAnswer, NamedAnswer, CeilingsAnswer}
 use Rattle.refusals.specs.Refusals.{job_refusal, object_refusal, processor_refusal}
 
 -- "The questions for a job's inherited rank .. use 8, 10, 13"

@@ -1,49 +1,29 @@
--- `questions::parts::ask_inherited_rank` meets its contract: refused with its number, or what the rule gives for the state's parts.
+-- `questions::parts::ask_inherited_rank` meets its contract: refused with its number, or what the rule gives.
 -- Assumes nothing.
-use Rattle.inheritance.specs.Parts.{inherited_rank_parts}
-use Rattle.refusals.specs.Accepting.{job_asking}
+use Rattle.std.specs.Prelude.{Err}
+use Rattle.std.proofs.Common.{sym, ap, ◌∙◌}
+use Rattle.std.proofs.lemmas.Result.{err_from_is_err_and}
+use Rattle.state.specs.Lent.{state_in}
 use Rattle.refusals.specs.Accepting.{asking}
-use mathlib.Core.Path.{◌≡◌, sym, ap, ◌∙◌}
-use mathlib.Core.Bool.{Bool}
-use borrow.Author.Tests.{eq-eqb, ne_eqb}
-use Rattle.state.specs.Holders.{well_held}
-use Rattle.state.specs.declared.State.{State}
-use Rattle.state.specs.State.{state_of}
-use Rattle.questions.specs.declared.RankAnswer.{RankAnswer}
-use Rattle.refusals.specs.Refusals.{job_refusal, job_refusal_of}
-use Rattle.questions.specs.Questions as Q
+use Rattle.questions.specs.Answers.{RankAnswer}
+use Rattle.questions.proofs.Asked as A
 use Rattle.questions.proofs.parts.ask_inherited_rank.Goals as goal
-use Rattle.questions.proofs.parts.ask_inherited_rank.Goals.{After-job_refusal-number, Start}
 
--- the state that the parts are of
-abbrev whole : (c : Start) → State
-whole c = let a = c.args in
-    state_of a.counts a.processor_of.now a.may_read.now a.may_write.now
-    a.active a.unlocked a.sleeping a.holder a.readers.now a.writers.now a.certified.now a.request.now
+pub job_refusal-requires : goal.job_refusal-requires
+job_refusal-requires c = λ w. (asking (state_in c.args.parts.now) (sym c.fits_sized.ensures.0 ∙ w)).jobs_fit
 
--- the number that was found is that of the state
-number : (c : After-job_refusal-number) → c.job_refusal-number.result ≡ job_refusal (whole c.before.before) c.args.rank
-unfolding job_refusal
-number c = let a = c.args in c.job_refusal-number.ensures ∙ ap (λ (b : Bool). job_refusal_of b a.counts.jobs a.active a.rank) c.fits_sized-well.ensures.0
-
-pub job_refusal-number-requires : goal.job_refusal-number-requires
-job_refusal-number-requires c = λ w. (asking (whole c.before) (sym c.fits_sized-well.ensures.0 ∙ w)).jobs_fit
-
-pub returns-then-number-ne0 : goal.returns-then-number-ne0
-unfolding Q.ask_inherited_rank
-returns-then-number-ne0 c =
-    let s = whole c.before.before.before in
-    let x = c.args.rank in
-    ap RankAnswer.Refused (number (c.before)) ∙ sym (simp (ne_eqb (job_refusal s x) 0 (λ e. c.if-number-ne0.true (number (c.before) ∙ e))))
+pub returns-in_err-job_refusal : goal.returns-in_err-job_refusal
+returns-in_err-job_refusal c =
+    let p = err_from_is_err_and c.from_residual.result c.from_residual.ensures.1 in
+    A.rank_refused (state_in c.args.parts.now) c.fits_sized.result c.fits_sized.ensures c.args.rank c.in_err-job_refusal.field-0.0 c.from_residual.result
+    c.in_err-job_refusal.ensures (p.1 ∙ ap Err p.2)
 
 pub inherited_rank-requires : goal.inherited_rank-requires
 inherited_rank-requires c =
-    let b = job_asking (whole c.before.before.before) c.args.rank ((sym (number c.before) ∙ c.if-number-ne0.false)) in
-    (b.0.jobs_fit, b.1.0, well_held (whole c.before.before.before) c.fits_sized-well.ensures.1 b.0.well)
+    let known = A.job_known (state_in c.args.parts.now) c.fits_sized.result c.fits_sized.ensures c.args.rank c.in_ok-job_refusal.ensures in
+    (known.0.jobs_fit, known.1, known.3)
 
 pub returns : goal.returns
-unfolding Q.ask_inherited_rank
 returns c =
-    let s = whole c.before.before.before.before in
-    let r = c.args.rank in
-    ap RankAnswer.Rank (c.inherited_rank.ensures ∙ sym (inherited_rank_parts s r)) ∙ sym (simp (eq-eqb (job_refusal s r) 0 ((sym (number c.before.before) ∙ c.if-number-ne0.false))))
+    ap RankAnswer.Rank c.inherited_rank.ensures
+    ∙ A.rank_told (state_in c.args.parts.now) c.fits_sized.result c.fits_sized.ensures c.args.rank c.in_ok-job_refusal.ensures

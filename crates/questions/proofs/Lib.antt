@@ -1,0 +1,2 @@
+-- What a question comes to once its refusal is known.
+pub mod Asked
