@@ -16,8 +16,7 @@ use Rattle.state.specs.Clauses.{Within, clauses, counts_within_lem}
 use Rattle.decimals.specs.Laid.{at_front, front_more, front_length}
 use Rattle.refusals.specs.Refusals.{object_allowed, refusal}
 use Rattle.refusals.specs.EventBytes.{kind_of_both, bytes_not_refused}
-use Rattle.generator.specs.declared.Made.{Made}
-use Rattle.generator.specs.Load.{step, drawn, kind_from, rank_from, object_from, event_from, seed_after, load, load_refusal, make_events, events_made}
+use Rattle.generator.specs.Load.{Made, step, drawn, kind_from, rank_from, object_from, event_from, seed_after, load, load_refusal, make_events, events_made}
 use Rattle.generator.specs.LoadTheorems as T
 use Rattle.generator.proofs.LoadLaws.{load_length, seed_join, load_join, load_at, refused_by_8, made}
 

@@ -1,13 +1,14 @@
 -- A test load from a seed: how the seed steps, the events that it gives, and what the generator answers and leaves in the lent buffer (02, CR 5: the
 -- sentences in quotes).
 -- Assumes nothing.
-use Rattle.std.specs.Prelude.{ℕ, zero, suc, ◌+◌, ◌*◌, ◌/◌, ◌%◌, ◌^◌, Bool, not, ◌||◌, List, [], ◌∷◌, ◌++◌, length, ◌==◌, nat_lt, if◌then◌else◌}
+use Rattle.std.specs.Prelude.{ℕ, zero, suc, ◌+◌, ◌*◌, ◌/◌, ◌%◌, ◌^◌, Bool, not, ◌||◌, List, [], ◌∷◌, ◌++◌, length, ◌==◌, nat_lt, if◌then◌else◌, Result, Ok, Err}
 use Rattle.basics.specs.Choice.{◌if◌else◌, between}
 use Rattle.state.specs.declared.Counts.{Counts}
 use Rattle.state.specs.declared.State.{State}
 use Rattle.state.specs.WellFormed.{well_formed}
 use Rattle.decimals.specs.Laid.{at_front}
-use Rattle.generator.specs.declared.Made.{Made}
+use Rattle.state.specs.declared.refusal.Refusal.{Refusal}
+use Rattle.state.specs.RefusalNumbers.{number}
 
 -- ---- the seed
 
@@ -59,6 +60,11 @@ load c (suc n) s = load c n s ++ event_from c (seed_after n s)
 
 -- ---- the generator
 
+-- what it gives: the refusal's number or 0, and the next seed
+pub record Made : Type 0 where
+  pub refusal : ℕ
+  pub seed : ℕ
+
 -- "Refused: 23, buffer shorter than three times the count, after 8."
 unfoldable pub load_refusal : State → (count : ℕ) → List ℕ → ℕ
 load_refusal s count buffer = 8 if not (well_formed s) else 23 if nat_lt (length buffer) (3 * count) else 0
@@ -74,3 +80,8 @@ make_events s seed count buffer =
 -- "fills a lent buffer with a wanted count of events"; "The rest of the buffer stays."
 unfoldable pub events_made : State → (seed count : ℕ) → List ℕ → List ℕ
 events_made s seed count buffer = if load_refusal s count buffer == 0 then at_front (load s.counts count seed) buffer else buffer
+
+-- what the code's answer gives, where this seed was handed in
+abbrev pub made_of : ℕ → Result ℕ Refusal → Made
+made_of seed (Ok next) = record { refusal = 0; seed = next }
+made_of seed (Err refusal) = record { refusal = number refusal; seed = seed }

@@ -3,108 +3,46 @@
 
 ghost use Rattle.std.specs.Prelude.{◌≡◌, ◌+◌, ◌*◌, ◌%◌, ◌^◌, ◌≤◌, not, length};
 ghost use Rattle.basics.specs.Loops.{one_if};
-ghost use Rattle.state.specs.State.{state_of};
 ghost use Rattle.state.specs.Clauses.{Within};
+ghost use Rattle.state.specs.Lent.{state_in};
 ghost use Rattle.decimals.specs.Laid.{Laid, at_front};
 ghost use Rattle.generator.specs.Load as L;
 
 use decimals::lay_three;
-use ranks::RankSet;
-use state::{Counts, JobProcessors, JobRequests, ObjectMarks, Sets, State};
-use std::num::wrapping_add_u32;
+use state::{Counts, Parts, Refusal, State};
 use well_formed::fits;
-
-// What the generator gives: the refusal's number or 0, and the next seed; on a refusal the seed handed in.
-#[derive(Clone, Copy)]
-pub struct Made {
-    pub refusal: u8,
-    pub seed: u32,
-}
 
 // Fills the front of the buffer with so many events, three bytes each, and leaves the rest; gives the seed from which the next go on.
 // Refused by 8 if the state is not well formed, then by 23 if the buffer is shorter than three times the count: the buffer is then untouched.
-pub fn make_events(state: State, seed: u32, count: usize, buf: &mut [u8]) -> Made
-    ensures { (result ≡ L.make_events state seed count buf.old) × (buf.new ≡ L.events_made state seed count buf.old) }
+pub fn make_events(state: State, seed: u32, count: usize, buf: &mut [u8]) -> Result<u32, Refusal>
+    ensures { (L.made_of seed result ≡ L.make_events state seed count buf.old) × (buf.new ≡ L.events_made state seed count buf.old) }
 {
-    make_load(
-        state.counts,
-        &state.processor_of,
-        &state.may_read,
-        &state.may_write,
-        state.active,
-        state.unlocked,
-        state.sleeping,
-        state.holder,
-        &state.readers,
-        &state.writers,
-        &state.certified,
-        &state.request,
-        seed,
-        count,
-        buf,
-    )
+    make_load(&state.parts(), seed, count, buf)
 }
 
 // The same on the parts of a state.
-pub fn make_load<'a>(
-    counts: Counts,
-    processor_of: &'a JobProcessors,
-    may_read: Sets<'a>,
-    may_write: Sets<'a>,
-    active: RankSet,
-    unlocked: RankSet,
-    sleeping: RankSet,
-    holder: u8,
-    readers: Sets<'a>,
-    writers: Sets<'a>,
-    certified: &'a ObjectMarks,
-    request: &'a JobRequests,
-    seed: u32,
-    count: usize,
-    buf: &mut [u8],
-) -> Made
-    ensures { (result ≡ L.make_events (state_of counts processor_of.now may_read.entry.now may_write.entry.now
-        active unlocked sleeping holder readers.entry.now writers.entry.now certified.now request.now) seed count buf.old)
-        × (buf.new ≡ L.events_made (state_of counts processor_of.now may_read.entry.now may_write.entry.now
-        active unlocked sleeping holder readers.entry.now writers.entry.now certified.now request.now) seed count buf.old) }
+pub fn make_load(parts: &Parts, seed: u32, count: usize, buf: &mut [u8]) -> Result<u32, Refusal>
+    ensures { (L.made_of seed result ≡ L.make_events (state_in parts.now) seed count buf.old)
+        × (buf.new ≡ L.events_made (state_in parts.now) seed count buf.old) }
 {
-    let well = fits(
-        counts,
-        processor_of,
-        may_read,
-        may_write,
-        active,
-        unlocked,
-        sleeping,
-        holder,
-        readers,
-        writers,
-        certified,
-        request,
-    );
-    if !well {
-        return Made { refusal: 8, seed };
+    if !fits(parts) {
+        return Err(Refusal::NotWellFormed);
     }
     if buf.len() / 3 < count {
-        return Made { refusal: 23, seed };
+        return Err(Refusal::LoadRoom);
     }
-    let next = lay_load(buf, counts, count, seed);
-    Made {
-        refusal: 0,
-        seed: next,
-    }
+    Ok(lay_load(buf, parts.counts, count, seed))
 }
 
 // So many events from the seed laid into the front of the buffer, where they have room; answers the seed behind them.
+#[tactic(auto, unfolding(crate::specs::Load::seed_after, crate::specs::Load::load))]
 fn lay_load(buf: &mut [u8], counts: Counts, count: usize, seed: u32) -> u32
     requires { Within counts × (3 * count ≤ length buf.old) }
     ensures { (result ≡ L.seed_after count seed) × (buf.new ≡ at_front (L.load counts count seed) buf.old) }
 {
     let mut next = seed;
-    let mut made = 0;
-    while made < count {
+    for made in 0..count {
         next = lay_event(buf, 3 * made, counts, next);
-        made += 1;
     }
     next
 }
@@ -143,11 +81,8 @@ fn rank_from(jobs: u8, second: u8) -> u8
 fn objects_carried(kind: u8) -> u8
     ensures { result ≡ one_if (not (L.carries_none kind)) }
 {
-    if (kind == 1) | ((5 <= kind) & (kind <= 6)) {
-        0
-    } else {
-        1
-    }
+    let none = (kind == 1) | ((5 <= kind) & (kind <= 6));
+    u8::from(!none)
 }
 
 // The object of an event of the kind, from the third number.
@@ -167,10 +102,11 @@ fn drawn(seed: u32) -> u8
 }
 
 // What a seed steps to.
+#[tactic(auto, unfolding(crate::specs::Load::step))]
 fn step(seed: u32) -> u32
     ensures { result ≡ L.step seed }
 {
-    wrapping_add_u32(wrapping_multiply(1664525, seed), 1013904223)
+    wrapping_multiply(1664525, seed).wrapping_add(1013904223)
 }
 
 // a times b, modulo 2^32.

@@ -1,5 +1,4 @@
--- The state page: its definition, the paper's numbers of the answers, what the code lays, and the theorems about it.
-pub mod Answers
+-- The state page: its definition, what the code lays, and the theorems about it.
 pub mod Page
 pub mod LineLaws
 pub mod PageLaws

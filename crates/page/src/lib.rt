@@ -2,13 +2,12 @@
 #![tactic(auto)]
 
 ghost use Rattle.std.specs.Prelude.{◌≡◌, ◌≤◌, length};
-ghost use Rattle.state.specs.State.{state_of};
 ghost use Rattle.state.specs.Clauses.{Within};
-ghost use Rattle.state.specs.Holders.{HolderFacts, held_state};
+ghost use Rattle.state.specs.Holders.{HolderFacts};
 ghost use Rattle.state.specs.Facts.{Sized};
-ghost use Rattle.inheritance.specs.Parts.{run_state};
+ghost use Rattle.state.specs.Lent.{state_in};
+ghost use Rattle.state.specs.RefusalNumbers.{length_reply};
 ghost use Rattle.decimals.specs.Laid.{at_front};
-ghost use Rattle.page.specs.Answers.{page_reply};
 ghost use Rattle.page.specs.Page as P;
 ghost use Rattle.page.specs.Parts.{ProcessorsFit};
 
@@ -16,132 +15,40 @@ mod lines;
 
 use inheritance::named_locks;
 use lines::{lay_lines, running_ranks};
-use ranks::RankSet;
-use state::{Counts, JobProcessors, JobRequests, ObjectMarks, Sets, State};
+use state::{Parts, Refusal, State};
 use well_formed::fits_sized;
-
-// What the page writer answers: the page's length, or the refusal's number.
-#[derive(Clone, Copy)]
-pub enum PageAnswer {
-    Length(usize),
-    Refused(u8),
-}
 
 // Lays the state's page into the front of the buffer and leaves the rest; answers the page's length.
 // Refused by 8 if the state is not well formed, then by 22 if the buffer is shorter than the page: the buffer is then untouched.
-pub fn page(state: State, buf: &mut [u8]) -> PageAnswer
-    ensures { (page_reply result ≡ P.write_page state buf.old) × (buf.new ≡ P.page_written state buf.old) × Sized state }
+pub fn page(state: State, buf: &mut [u8]) -> Result<usize, Refusal>
+    ensures { (length_reply result ≡ P.write_page state buf.old) × (buf.new ≡ P.page_written state buf.old) × Sized state }
 {
-    write_page(
-        state.counts,
-        &state.processor_of,
-        &state.may_read,
-        &state.may_write,
-        state.active,
-        state.unlocked,
-        state.sleeping,
-        state.holder,
-        &state.readers,
-        &state.writers,
-        &state.certified,
-        &state.request,
-        buf,
-    )
+    write_page(&state.parts(), buf)
 }
 
 // The same on the parts of a state.
-pub fn write_page<'a>(
-    counts: Counts,
-    processor_of: &'a JobProcessors,
-    may_read: Sets<'a>,
-    may_write: Sets<'a>,
-    active: RankSet,
-    unlocked: RankSet,
-    sleeping: RankSet,
-    holder: u8,
-    readers: Sets<'a>,
-    writers: Sets<'a>,
-    certified: &'a ObjectMarks,
-    request: &'a JobRequests,
-    buf: &mut [u8],
-) -> PageAnswer
-    ensures { (page_reply result ≡ P.write_page (state_of counts processor_of.now may_read.entry.now may_write.entry.now
-        active unlocked sleeping holder readers.entry.now writers.entry.now certified.now request.now) buf.old)
-        × (buf.new ≡ P.page_written (state_of counts processor_of.now may_read.entry.now may_write.entry.now
-        active unlocked sleeping holder readers.entry.now writers.entry.now certified.now request.now) buf.old) }
+pub fn write_page(parts: &Parts, buf: &mut [u8]) -> Result<usize, Refusal>
+    ensures { (length_reply result ≡ P.write_page (state_in parts.now) buf.old) × (buf.new ≡ P.page_written (state_in parts.now) buf.old) }
 {
-    let well = fits_sized(
-        counts,
-        processor_of,
-        may_read,
-        may_write,
-        active,
-        unlocked,
-        sleeping,
-        holder,
-        readers,
-        writers,
-        certified,
-        request,
-    );
-    if !well {
-        return PageAnswer::Refused(8);
+    if !fits_sized(parts) {
+        return Err(Refusal::NotWellFormed);
     }
-    let length = 21 * ranks::size(active);
+    let length = 21 * ranks::size(parts.active);
     if buf.len() < length {
-        return PageAnswer::Refused(22);
+        return Err(Refusal::PageRoom);
     }
-    lay_page(
-        buf,
-        counts,
-        processor_of,
-        may_read,
-        may_write,
-        active,
-        sleeping,
-        holder,
-        readers,
-        writers,
-        certified,
-        request,
-    );
-    PageAnswer::Length(length)
+    lay_page(buf, parts);
+    Ok(length)
 }
 
 // The page laid into the front of the buffer, where it has room; the bytes behind it stay.
-fn lay_page<'a>(
-    buf: &mut [u8],
-    counts: Counts,
-    processor_of: &'a JobProcessors,
-    may_read: Sets<'a>,
-    may_write: Sets<'a>,
-    active: RankSet,
-    sleeping: RankSet,
-    holder: u8,
-    readers: Sets<'a>,
-    writers: Sets<'a>,
-    certified: &'a ObjectMarks,
-    request: &'a JobRequests,
-)
-    requires { Within counts × ProcessorsFit counts processor_of.now
-        × HolderFacts (held_state counts may_read.now may_write.now holder readers.now writers.now certified.now)
-        × (length (P.page (run_state counts processor_of.now active sleeping may_read.now may_write.now readers.now writers.now certified.now request.now)) ≤ length buf.old) }
-    ensures { buf.new ≡ at_front (P.page (run_state counts processor_of.now active sleeping may_read.entry.now may_write.entry.now
-        readers.entry.now writers.entry.now certified.now request.now)) buf.old }
+fn lay_page(buf: &mut [u8], parts: &Parts)
+    requires { Within parts.now.counts × ProcessorsFit parts.now.counts parts.now.processor_of.now × HolderFacts (state_in parts.now)
+        × (length (P.page (state_in parts.now)) ≤ length buf.old) }
+    ensures { buf.new ≡ at_front (P.page (state_in parts.now)) buf.old }
 {
-    let named = named_locks(
-        counts, may_read, may_write, holder, readers, writers, certified, request,
-    );
-    let awake = ranks::minus(active, sleeping);
-    let running = running_ranks(counts, &named, processor_of, awake, request);
-    lay_lines(
-        buf,
-        counts,
-        &named,
-        &running,
-        processor_of,
-        active,
-        sleeping,
-        request,
-    );
+    let named = named_locks(parts);
+    let awake = ranks::minus(parts.active, parts.sleeping);
+    let running = running_ranks(parts, &named, awake);
+    lay_lines(buf, parts, &named, &running);
 }

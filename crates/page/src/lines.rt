@@ -12,29 +12,30 @@ ghost use Rattle.page.specs.Parts.{RunsBy, ProcessorsFit, line_by, lines_by};
 use decimals::{lay_aligned, lay_byte, lay_letter, lay_three};
 use inheritance::{JobLocks, inherited_by, lock_holder, lock_object, running_by};
 use ranks::{RankSet, contains};
-use state::{Counts, JobProcessors, JobRequests};
+use state::Parts;
 
 // A rank for each processor.
 pub type ProcessorRanks = [u8; 8];
 
+// What a line shows; holder and object 0 where the job names nobody.
+#[derive(Clone, Copy)]
+struct Fields {
+    rank: u8,
+    processor: u8,
+    letter: u8,
+    inherited: u8,
+    holder: u8,
+    object: u8,
+}
+
 // For each processor the rank that it runs, by the ranks that are awake and the lock that each rank names; 0 where it is idle.
-pub fn running_ranks<'a>(
-    counts: Counts,
-    named: &'a JobLocks,
-    processor_of: &'a JobProcessors,
-    awake: RankSet,
-    request: &'a JobRequests,
-) -> ProcessorRanks
-    requires { (counts.jobs ≤ most_jobs) × (counts.processors ≤ most_processors) }
-    ensures { RunsBy result counts named.now processor_of.now awake request.now }
+pub fn running_ranks(parts: &Parts, named: &JobLocks, awake: RankSet) -> ProcessorRanks
+    requires { (parts.now.counts.jobs ≤ most_jobs) × (parts.now.counts.processors ≤ most_processors) }
+    ensures { RunsBy result parts.now.counts named.now parts.now.processor_of.now awake parts.now.request.now }
 {
-    let processors = counts.processors;
     let mut running: ProcessorRanks = [0; 8];
-    let mut processor: u8 = 0;
-    while processor < processors {
-        let i = processor as usize;
-        running[i] = running_by(counts.jobs, named, processor_of, awake, request, processor);
-        processor += 1;
+    for processor in 0..parts.counts.processors {
+        running[processor as usize] = running_by(parts, named, awake, processor);
     }
     running
 }
@@ -76,91 +77,57 @@ fn lay_named(buf: &mut [u8], at: usize, holder: u8, number: u8) -> usize
 }
 
 // A line of these fields, which fills the lent part. The processor in three bytes is a space and the processor in two.
-fn lay_line(
-    line: &mut [u8],
-    rank: u8,
-    processor: u8,
-    letter: u8,
-    inherited: u8,
-    holder: u8,
-    object: u8,
-)
-    requires { (length line.old ≡ 21) × (processor < 100) }
-    ensures { line.new ≡ line_of rank processor letter inherited holder object }
+fn lay_line(line: &mut [u8], fields: Fields)
+    requires { (length line.old ≡ 21) × (fields.processor < 100) }
+    ensures { line.new ≡ line_of fields.rank fields.processor fields.letter fields.inherited fields.holder fields.object }
 {
-    let by = lay_aligned(line, 0, rank);
-    let on = lay_aligned(line, by, processor);
-    let then = lay_letter(line, on, letter);
-    let own = lay_field(line, then, inherited);
-    let named = lay_named(line, own, holder, holder);
-    let last = lay_named(line, named, holder, object);
+    let by = lay_aligned(line, 0, fields.rank);
+    let on = lay_aligned(line, by, fields.processor);
+    let then = lay_letter(line, on, fields.letter);
+    let own = lay_field(line, then, fields.inherited);
+    let named = lay_named(line, own, fields.holder, fields.holder);
+    let last = lay_named(line, named, fields.holder, fields.object);
     lay_byte(line, last, b'\n');
 }
 
 // The rank's line, which fills the lent part.
-fn lay_rank<'a>(
-    line: &mut [u8],
-    jobs: u8,
-    named: &'a JobLocks,
-    running: &'a ProcessorRanks,
-    processor_of: &'a JobProcessors,
-    sleeping: RankSet,
-    request: &'a JobRequests,
-    rank: u8,
-)
-    requires { (length line.old ≡ 21) × (1 ≤ rank) × (rank ≤ most_jobs) × (jobs ≤ most_jobs) × (at processor_of.now rank < most_processors) }
-    ensures { line.new ≡ line_by jobs named.now running.now processor_of.now sleeping request.now rank }
+fn lay_rank(line: &mut [u8], parts: &Parts, named: &JobLocks, running: &ProcessorRanks, rank: u8)
+    requires { (length line.old ≡ 21) × (1 ≤ rank) × (rank ≤ most_jobs) × (parts.now.counts.jobs ≤ most_jobs)
+        × (at parts.now.processor_of.now rank < most_processors) }
+    ensures { line.new ≡ line_by parts.now.counts.jobs named.now running.now parts.now.processor_of.now parts.now.sleeping parts.now.request.now rank }
 {
     let i = (rank - 1) as usize;
-    let processor = processor_of[i];
-    let letter = state_letter(
-        running[processor as usize],
-        request[i],
-        contains(sleeping, rank),
-        rank,
-    );
-    let inherited = inherited_by(jobs, named, rank);
+    let processor = parts.processor_of[i];
+    let sleeps = contains(parts.sleeping, rank);
     let lock = named[i];
-    let holder = lock_holder(lock);
-    let object = lock_object(lock);
-    lay_line(line, rank, processor, letter, inherited, holder, object);
+    lay_line(
+        line,
+        Fields {
+            rank,
+            processor,
+            letter: state_letter(running[processor as usize], parts.request[i], sleeps, rank),
+            inherited: inherited_by(parts.counts.jobs, named, rank),
+            holder: lock_holder(lock),
+            object: lock_object(lock),
+        },
+    );
 }
 
 // The lines of the active ranks, one behind the other from the buffer's front on; the bytes behind them stay.
-pub fn lay_lines<'a>(
-    buf: &mut [u8],
-    counts: Counts,
-    named: &'a JobLocks,
-    running: &'a ProcessorRanks,
-    processor_of: &'a JobProcessors,
-    active: RankSet,
-    sleeping: RankSet,
-    request: &'a JobRequests,
-)
-    requires { Within counts × ProcessorsFit counts processor_of.now
-        × (length (lines_by counts.jobs counts.jobs named.now running.now processor_of.now active sleeping request.now) ≤ length buf.old) }
-    ensures { buf.new ≡ at_front (lines_by counts.jobs counts.jobs named.now running.now processor_of.now active sleeping
-        request.now) buf.old }
+pub fn lay_lines(buf: &mut [u8], parts: &Parts, named: &JobLocks, running: &ProcessorRanks)
+    requires { Within parts.now.counts × ProcessorsFit parts.now.counts parts.now.processor_of.now
+        × (length (lines_by parts.now.counts.jobs parts.now.counts.jobs named.now running.now parts.now.processor_of.now parts.now.active
+        parts.now.sleeping parts.now.request.now) ≤ length buf.old) }
+    ensures { buf.new ≡ at_front (lines_by parts.now.counts.jobs parts.now.counts.jobs named.now running.now parts.now.processor_of.now
+        parts.now.active parts.now.sleeping parts.now.request.now) buf.old }
 {
-    let jobs = counts.jobs;
-    let mut end: usize = 0;
-    let mut rank: u8 = 0;
-    while rank < jobs {
-        rank += 1;
-        if !contains(active, rank) {
-            continue;
+    let mut end = 0;
+    for before in 0..parts.counts.jobs {
+        let rank = before + 1;
+        if contains(parts.active, rank) {
+            let start = end;
+            end += 21;
+            lay_rank(&mut buf[start..end], parts, named, running, rank);
         }
-        let start = end;
-        end += 21;
-        lay_rank(
-            &mut buf[start..end],
-            jobs,
-            named,
-            running,
-            processor_of,
-            sleeping,
-            request,
-            rank,
-        );
     }
 }

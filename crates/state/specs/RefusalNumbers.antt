@@ -1,7 +1,8 @@
 -- The papers' number of each refusal (01, "Refusals by who can cause them"; 02): "Order: 8, then as numbered" says which comes first where several hold.
 -- Assumes nothing.
-use Rattle.std.specs.Prelude.{ℕ, ◌≢◌, Result, Ok, Err}
+use Rattle.std.specs.Prelude.{ℕ, ◌≢◌, [], ◌∷◌, Result, Ok, Err}
 use Rattle.std.proofs.Common.{arith}
+use Rattle.basics.specs.Replies.{Reply, refused, told}
 use Rattle.state.specs.declared.refusal.Refusal.{Refusal}
 use Rattle.state.specs.declared.refusal.Refusal.TheVariants as V
 
@@ -39,6 +40,12 @@ number V.JobAwake = 27
 abbrev pub refusal_number : Result Unit Refusal → ℕ
 refusal_number (Ok _) = 0
 refusal_number (Err refusal) = number refusal
+
+-- the number and the value of what a writer answers: 01, "Table bytes": it "answers its length"; 02, CR 2: "the answer is the page's length". The promises are
+-- stated through this definition.
+abbrev pub length_reply : Result ℕ Refusal → Reply
+length_reply (Ok n) = told (n ∷ [])
+length_reply (Err refusal) = refused (number refusal)
 
 -- 0 is no refusal's number
 pub number_positive : (refusal : Refusal) → number refusal ≢ 0

@@ -1,5 +1,4 @@
 -- The bytes of a state's table, what the table writer answers and leaves in the lent buffer, and both round trips.
-pub mod Answers
 pub mod Writing
 pub mod Laying
 pub mod EntryLaws

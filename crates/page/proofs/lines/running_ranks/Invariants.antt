@@ -1,5 +1,5 @@
 -- `page::lines::running_ranks` meets its contract. The loop's invariant: the element of each processor passed is the rank that it runs, and the others are 0. A
--- turn stores one more, and the number of processors left falls.
+-- turn stores one more.
 -- Assumes nothing.
 use mathlib.Core.Path.{◌≡◌}
 use Prim.Native.Nat.{◌≤◌, ◌-◌}
@@ -11,9 +11,5 @@ use Rattle.page.proofs.lines.running_ranks.Given as goal
 
 abbrev pub invariant-loop-processor : goal.invariant-loop-processor
 invariant-loop-processor l =
-    (l.processor ≤ l.processors) × (length l.running ≡ most_processors)
-    × FilledTo l.running l.processor (λ k. running_by l.counts.jobs l.named l.processor_of l.awake l.request (k - 1))
-
-abbrev pub decreases-loop-processor : goal.decreases-loop-processor
-decreases-loop-processor l =
-    l.processors - l.processor
+    (l.processor ≤ l.parts.counts.processors) × (length l.running ≡ most_processors)
+    × FilledTo l.running l.processor (λ k. running_by l.parts.counts.jobs l.named l.parts.processor_of.now l.awake l.parts.request.now (k - 1))
