@@ -7,7 +7,18 @@ ghost use Rattle.by_value.specs.Mixing.{mixed};
 
 use events::pack;
 use manager::event;
+use state::{State, zero_state};
 use table::read_table;
+
+// The table's state, the one whose numbers are all 0 if the table is refused.
+fn start(table: &[u8]) -> State
+    ensures { result ≡ (read_table table.now).state }
+{
+    match read_table(table) {
+        Ok(read) => read.state,
+        Err(_) => zero_state(),
+    }
+}
 
 // The answers to the events in the bytes, from the table's state, mixed into one number. One or two bytes left over are not looked at.
 // From the state of a refused table every answer is a refusal.
@@ -15,17 +26,13 @@ use table::read_table;
 pub extern "C" fn by_value_answers<'a>(table: &'a [u8], events: &'a [u8]) -> u32
     ensures { result ≡ mixed (read_table table.now).state 0 events.now }
 {
-    let read = read_table(table);
-    let mut state = read.state;
+    let mut state = start(table);
     let mut answers = 0;
-    let mut at = 0;
-    while events.len() - at >= 3 {
+    for i in 0..events.len() / 3 {
+        let at = 3 * i;
         let outcome = event(state, events[at], events[at + 1], events[at + 2]);
-        let answer = outcome.answer;
-        let next = outcome.state;
-        answers = answers ^ pack(answer);
-        state = next;
-        at += 3;
+        answers ^= pack(outcome.answer);
+        state = outcome.state;
     }
     answers
 }

@@ -5,12 +5,10 @@ ghost use Rattle.questions.specs.Questions as Q;
 ghost use Rattle.basics.specs.Replies.{value};
 ghost use Rattle.questions.specs.Answers.{rank_reply, named_reply, ceilings_reply};
 
-use questions::{
-    CeilingsAnswer, NamedAnswer, RankAnswer, ask_ceilings, ask_inherited_rank, ask_named_lock,
-    ask_running,
-};
+use crate::cells::put;
+use questions::{ask_ceilings, ask_inherited_rank, ask_named_lock, ask_running};
 use ranks::RankSet;
-use state::{Counts, JobProcessors, JobRequests, ObjectMarks, Sets};
+use state::{Counts, JobProcessors, JobRequests, ObjectMarks, Parts, Sets};
 
 // A job's inherited rank. Refused by 8, 10, 13.
 #[unsafe(no_mangle)]
@@ -38,14 +36,13 @@ pub extern "C" fn vongselik_parts_inherited_rank<'a>(
     ensures inherited { inherited.new ≡ value (rank_reply (Q.ask_inherited_rank (state_of (counts_of version processors jobs objects) processor_of.now may_read.entry.now may_write.entry.now
         active unlocked sleeping holder readers.entry.now writers.entry.now certified.now request.now) rank)) 0 inherited.old }
 {
-    let counts = Counts {
-        version,
-        processors,
-        jobs,
-        objects,
-    };
-    let answer = ask_inherited_rank(
-        counts,
+    let parts = Parts {
+        counts: Counts {
+            version,
+            processors,
+            jobs,
+            objects,
+        },
         processor_of,
         may_read,
         may_write,
@@ -57,15 +54,8 @@ pub extern "C" fn vongselik_parts_inherited_rank<'a>(
         writers,
         certified,
         request,
-        rank,
-    );
-    match answer {
-        RankAnswer::Rank(value) => {
-            *inherited = value;
-            0
-        }
-        RankAnswer::Refused(number) => number,
-    }
+    };
+    put(ask_inherited_rank(&parts, rank), inherited)
 }
 
 // The lock that a job names: its holder and object, 0 and 0 if it names nobody. Refused by 8, 10, 13.
@@ -97,14 +87,13 @@ pub extern "C" fn vongselik_parts_named_lock<'a>(
     ensures object { named_object.new ≡ value (named_reply (Q.ask_named_lock (state_of (counts_of version processors jobs objects) processor_of.now may_read.entry.now may_write.entry.now
         active unlocked sleeping holder readers.entry.now writers.entry.now certified.now request.now) rank)) 1 named_object.old }
 {
-    let counts = Counts {
-        version,
-        processors,
-        jobs,
-        objects,
-    };
-    let answer = ask_named_lock(
-        counts,
+    let parts = Parts {
+        counts: Counts {
+            version,
+            processors,
+            jobs,
+            objects,
+        },
         processor_of,
         may_read,
         may_write,
@@ -116,18 +105,14 @@ pub extern "C" fn vongselik_parts_named_lock<'a>(
         writers,
         certified,
         request,
-        rank,
-    );
-    match answer {
-        NamedAnswer::Lock {
-            holder: other,
-            object,
-        } => {
-            *named_holder = other;
-            *named_object = object;
+    };
+    match ask_named_lock(&parts, rank) {
+        Ok(lock) => {
+            *named_holder = lock.holder;
+            *named_object = lock.object;
             0
         }
-        NamedAnswer::Refused(number) => number,
+        Err(refusal) => refusal.number(),
     }
 }
 
@@ -160,14 +145,13 @@ pub extern "C" fn vongselik_parts_ceilings<'a>(
     ensures absolute { absolute_ceiling.new ≡ value (ceilings_reply (Q.ask_ceilings (state_of (counts_of version processors jobs objects) processor_of.now may_read.entry.now may_write.entry.now
         active unlocked sleeping holder readers.entry.now writers.entry.now certified.now request.now) object)) 1 absolute_ceiling.old }
 {
-    let counts = Counts {
-        version,
-        processors,
-        jobs,
-        objects,
-    };
-    let answer = ask_ceilings(
-        counts,
+    let parts = Parts {
+        counts: Counts {
+            version,
+            processors,
+            jobs,
+            objects,
+        },
         processor_of,
         may_read,
         may_write,
@@ -179,15 +163,14 @@ pub extern "C" fn vongselik_parts_ceilings<'a>(
         writers,
         certified,
         request,
-        object,
-    );
-    match answer {
-        CeilingsAnswer::Ceilings { write, absolute } => {
-            *write_ceiling = write;
-            *absolute_ceiling = absolute;
+    };
+    match ask_ceilings(&parts, object) {
+        Ok(ceilings) => {
+            *write_ceiling = ceilings.write;
+            *absolute_ceiling = ceilings.absolute;
             0
         }
-        CeilingsAnswer::Refused(number) => number,
+        Err(refusal) => refusal.number(),
     }
 }
 
@@ -217,14 +200,13 @@ pub extern "C" fn vongselik_parts_running<'a>(
     ensures rank { rank.new ≡ value (rank_reply (Q.ask_running (state_of (counts_of version processors jobs objects) processor_of.now may_read.entry.now may_write.entry.now
         active unlocked sleeping holder readers.entry.now writers.entry.now certified.now request.now) processor)) 0 rank.old }
 {
-    let counts = Counts {
-        version,
-        processors,
-        jobs,
-        objects,
-    };
-    let answer = ask_running(
-        counts,
+    let parts = Parts {
+        counts: Counts {
+            version,
+            processors,
+            jobs,
+            objects,
+        },
         processor_of,
         may_read,
         may_write,
@@ -236,13 +218,6 @@ pub extern "C" fn vongselik_parts_running<'a>(
         writers,
         certified,
         request,
-        processor,
-    );
-    match answer {
-        RankAnswer::Rank(value) => {
-            *rank = value;
-            0
-        }
-        RankAnswer::Refused(number) => number,
-    }
+    };
+    put(ask_running(&parts, processor), rank)
 }

@@ -6,42 +6,24 @@ ghost use Rattle.table_bytes.specs.Refusals.{table_refusal};
 ghost use Rattle.table.specs.JobEntries.{job_entries_refusal};
 ghost use Rattle.vongselik.specs.Entries.{part_start, start_cell, length_cell};
 
-use table_bytes::wide;
-
-// The number of 16 bits at an index, high byte first.
-fn word_at(bytes: &[u8], at: usize) -> usize
-    requires { at + 1 < length bytes.now }
-    ensures { (result ≡ word bytes.now at) × (result < 65536) }
-{
-    wide(bytes[at]) * 256 + wide(bytes[at + 1])
-}
-
-// The bytes of an entry, 3, if the test holds; else none.
-fn entry_bytes(test: bool) -> usize
-    ensures { (result ≡ 3 * one_if test) × (result ≤ 3) }
-{
-    if test { 3 } else { 0 }
-}
+use table_bytes::{entry_at, entry_count, entry_start};
 
 // Where the rank's entries start in accepted table bytes: behind those of smaller ranks.
+#[tactic(auto, using(table_bytes::specs::AcceptedTable::accepted_table, crate::specs::Entries::smaller_more, crate::specs::Entries::smaller_le), unfolding(crate::specs::Entries::part_start))]
 fn part_start(bytes: &[u8], rank: u8) -> usize
     requires { table_refusal bytes.now ≡ 0 }
     ensures { result ≡ part_start bytes.now rank }
 {
-    let at = 8 + wide(bytes[6]);
-    let count = word_at(bytes, at);
-    let first = at + 2;
-    let mut entry: usize = 0;
-    let mut start = first;
-    while entry < count {
-        start += entry_bytes(bytes[first + 3 * entry] < rank);
-        entry += 1;
+    let mut smaller: usize = 0;
+    for k in 0..entry_count(bytes) {
+        smaller += usize::from(entry_at(bytes, k).rank < rank);
     }
-    start
+    entry_start(bytes, smaller)
 }
 
 // Where one job's entries start within the table bytes and how many bytes they have, in the lent cells. Answers 0, or the refusal's number, 1 to 7 or 10,
 // and leaves the cells as they were.
+#[tactic(auto, using(table::specs::JobPart::job_accepted, state::specs::RefusalNumbers::number_positive), unfolding(crate::specs::Entries::start_cell, crate::specs::Entries::length_cell))]
 #[unsafe(no_mangle)]
 pub extern "C" fn vongselik_parts_job_entries(
     bytes: &[u8],
@@ -53,12 +35,12 @@ pub extern "C" fn vongselik_parts_job_entries(
     ensures start { start.new ≡ start_cell bytes.now rank start.old }
     ensures length { length.new ≡ length_cell bytes.now rank length.old }
 {
-    let mut number: u8 = 0;
-    let entries = table::job_entries(bytes, rank, &mut number);
-    if number != 0 {
-        return number;
+    match table::job_entries(bytes, rank) {
+        Ok(entries) => {
+            *start = part_start(bytes, rank);
+            *length = entries.len();
+            0
+        }
+        Err(refusal) => refusal.number(),
     }
-    *start = part_start(bytes, rank);
-    *length = entries.len();
-    0
 }

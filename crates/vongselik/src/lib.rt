@@ -8,14 +8,16 @@ ghost use Rattle.events.specs.Packing.{packed, unpacked};
 ghost use Rattle.manager.specs.Step.{step};
 
 mod asking;
+mod cells;
 mod entries;
 mod lists;
 mod loads;
 mod pages;
 mod tables;
 
+use manager::act_packed;
 use ranks::RankSet;
-use state::{Counts, JobProcessors, JobRequests, ObjectMarks, Sets, SetsMut};
+use state::{Counts, JobProcessors, JobRequests, ObjectMarks, PartsMut, Sets, SetsMut};
 use well_formed::fits_sized;
 
 // An event: its answer packed into a number that can be taken apart again, and the parts of the next state. A refusal, by 8 to 18 or 21, leaves every part as it was.
@@ -49,29 +51,13 @@ pub extern "C" fn vongselik_parts_event<'a>(
         ≡ (step (state_of (counts_of version processors jobs objects) processor_of.now may_read.entry.now may_write.entry.now
         active.old unlocked.old sleeping.old holder.old readers.entry.now writers.entry.now certified.old request.old) kind rank object).state }
 {
-    let counts = Counts {
-        version,
-        processors,
-        jobs,
-        objects,
-    };
-    let well = fits_sized(
-        counts,
-        processor_of,
-        may_read,
-        may_write,
-        *active,
-        *unlocked,
-        *sleeping,
-        *holder,
-        readers,
-        writers,
-        certified,
-        request,
-    );
-    manager::act_packed(
-        well,
-        counts,
+    let mut state = PartsMut {
+        counts: Counts {
+            version,
+            processors,
+            jobs,
+            objects,
+        },
         processor_of,
         may_read,
         may_write,
@@ -83,8 +69,7 @@ pub extern "C" fn vongselik_parts_event<'a>(
         writers,
         certified,
         request,
-        kind,
-        rank,
-        object,
-    )
+    };
+    let well = fits_sized(&state.read());
+    act_packed(well, &mut state, kind, rank, object)
 }

@@ -3,8 +3,9 @@ ghost use Rattle.std.specs.Prelude.{◌≡◌, ◌++◌, drop};
 ghost use Rattle.state.specs.State.{counts_of, state_of};
 ghost use Rattle.manager.specs.EventList.{state_after, answers_to, event_count, whole_events};
 
+use manager::act_each;
 use ranks::RankSet;
-use state::{Counts, JobProcessors, JobRequests, ObjectMarks, Sets, SetsMut};
+use state::{Counts, JobProcessors, JobRequests, ObjectMarks, PartsMut, Sets, SetsMut};
 
 // Events, one after the other, in the bytes: as many as the bytes and the list of answers both hold whole, their packed answers at the front of the list and
 // the parts of the state behind them, as by a call for each; the state is tested once. The answers behind them stay. Answers how many events there were.
@@ -38,14 +39,13 @@ pub extern "C" fn vongselik_parts_events<'a>(
         active.old unlocked.old sleeping.old holder.old readers.entry.now writers.entry.now certified.old request.old)
         (whole_events events.now answers.old) }
 {
-    let counts = Counts {
-        version,
-        processors,
-        jobs,
-        objects,
-    };
-    manager::act_each(
-        counts,
+    let mut state = PartsMut {
+        counts: Counts {
+            version,
+            processors,
+            jobs,
+            objects,
+        },
         processor_of,
         may_read,
         may_write,
@@ -57,7 +57,6 @@ pub extern "C" fn vongselik_parts_events<'a>(
         writers,
         certified,
         request,
-        events,
-        answers,
-    )
+    };
+    act_each(&mut state, events, answers)
 }

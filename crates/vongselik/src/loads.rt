@@ -3,9 +3,10 @@ ghost use Rattle.std.specs.Prelude.{◌≡◌};
 ghost use Rattle.state.specs.State.{counts_of, state_of};
 ghost use Rattle.generator.specs.Load.{make_events, events_made};
 
+use crate::cells::put;
 use generator::make_load;
 use ranks::RankSet;
-use state::{Counts, JobProcessors, JobRequests, ObjectMarks, Sets};
+use state::{Counts, JobProcessors, JobRequests, ObjectMarks, Parts, Sets};
 
 // Lays so many events from the seed into the front of the buffer and puts the next seed into `seed`. Answers 0, or the refusal's number, 8 or 23, and leaves
 // all as it was.
@@ -37,14 +38,13 @@ pub extern "C" fn vongselik_parts_make_events<'a>(
     ensures buffer { buffer.new ≡ events_made (state_of (counts_of version processors jobs objects) processor_of.now may_read.entry.now may_write.entry.now
         active unlocked sleeping holder readers.entry.now writers.entry.now certified.now request.now) seed.old count buffer.old }
 {
-    let counts = Counts {
-        version,
-        processors,
-        jobs,
-        objects,
-    };
-    let made = make_load(
-        counts,
+    let parts = Parts {
+        counts: Counts {
+            version,
+            processors,
+            jobs,
+            objects,
+        },
         processor_of,
         may_read,
         may_write,
@@ -56,10 +56,6 @@ pub extern "C" fn vongselik_parts_make_events<'a>(
         writers,
         certified,
         request,
-        *seed,
-        count,
-        buffer,
-    );
-    *seed = made.seed;
-    made.refusal
+    };
+    put(make_load(&parts, *seed, count, buffer), seed)
 }

@@ -4,9 +4,10 @@ ghost use Rattle.state.specs.State.{counts_of, state_of};
 ghost use Rattle.page.specs.Page.{write_page, page_written};
 ghost use Rattle.basics.specs.Replies.{value};
 
-use page::{PageAnswer, write_page};
+use crate::cells::put;
+use page::write_page;
 use ranks::RankSet;
-use state::{Counts, JobProcessors, JobRequests, ObjectMarks, Sets};
+use state::{Counts, JobProcessors, JobRequests, ObjectMarks, Parts, Sets};
 
 // Lays the state's page into the front of the buffer and its length into `length`. Answers 0, or the refusal's number, 8 or 22, and leaves all as it was.
 #[unsafe(no_mangle)]
@@ -36,14 +37,13 @@ pub extern "C" fn vongselik_parts_page<'a>(
     ensures length { length.new ≡ value (write_page (state_of (counts_of version processors jobs objects) processor_of.now may_read.entry.now may_write.entry.now
         active unlocked sleeping holder readers.entry.now writers.entry.now certified.now request.now) buffer.old) 0 length.old }
 {
-    let counts = Counts {
-        version,
-        processors,
-        jobs,
-        objects,
-    };
-    let answer = write_page(
-        counts,
+    let parts = Parts {
+        counts: Counts {
+            version,
+            processors,
+            jobs,
+            objects,
+        },
         processor_of,
         may_read,
         may_write,
@@ -55,13 +55,6 @@ pub extern "C" fn vongselik_parts_page<'a>(
         writers,
         certified,
         request,
-        buffer,
-    );
-    match answer {
-        PageAnswer::Length(value) => {
-            *length = value;
-            0
-        }
-        PageAnswer::Refused(number) => number,
-    }
+    };
+    put(write_page(&parts, buffer), length)
 }

@@ -6,11 +6,13 @@ ghost use Rattle.table_writer.specs.Writing.{write_table, written};
 ghost use Rattle.vongselik.specs.Lending.{state_read, used_read};
 ghost use Rattle.basics.specs.Replies.{value};
 
+use crate::cells::put;
 use ranks::RankSet;
 use state::{Counts, JobProcessors, JobRequests, ObjectMarks, Sets, SetsMut, State};
-use table_writer::Written;
+use table_writer::write_table;
 
 // Reads a table into the lent parts of a state, and its length into `used`. Answers 0, or the refusal's number, 1 to 7, and leaves all as it was.
+#[tactic(auto, using(state::specs::RefusalNumbers::number_positive), unfolding(crate::specs::Lending::state_read, crate::specs::Lending::used_read))]
 #[unsafe(no_mangle)]
 pub extern "C" fn vongselik_parts_read_table(
     bytes: &[u8],
@@ -39,36 +41,29 @@ pub extern "C" fn vongselik_parts_read_table(
         (state_of (counts_of version.old processors.old jobs.old objects.old) processor_of.old may_read.entry.now may_write.entry.now
         active.old unlocked.old sleeping.old holder.old readers.entry.now writers.entry.now certified.old request.old) }
 {
-    let read = table::read_table(bytes);
-    if read.refusal != 0 {
-        return read.refusal;
+    match table::read_table(bytes) {
+        Ok(read) => {
+            let next = read.state.parts();
+            *used = read.used;
+            *version = next.counts.version;
+            *processors = next.counts.processors;
+            *jobs = next.counts.jobs;
+            *objects = next.counts.objects;
+            *processor_of = *next.processor_of;
+            *may_read = *next.may_read;
+            *may_write = *next.may_write;
+            *active = next.active;
+            *unlocked = next.unlocked;
+            *sleeping = next.sleeping;
+            *holder = next.holder;
+            *readers = *next.readers;
+            *writers = *next.writers;
+            *certified = *next.certified;
+            *request = *next.request;
+            0
+        }
+        Err(refusal) => refusal.number(),
     }
-    let next = read.state;
-    *used = read.used;
-    let counts = next.counts;
-    *version = counts.version;
-    *processors = counts.processors;
-    *jobs = counts.jobs;
-    *objects = counts.objects;
-    let next_processor_of = next.processor_of;
-    *processor_of = next_processor_of;
-    let next_may_read = next.may_read;
-    *may_read = next_may_read;
-    let next_may_write = next.may_write;
-    *may_write = next_may_write;
-    *active = next.active;
-    *unlocked = next.unlocked;
-    *sleeping = next.sleeping;
-    *holder = next.holder;
-    let next_readers = next.readers;
-    *readers = next_readers;
-    let next_writers = next.writers;
-    *writers = next_writers;
-    let next_certified = next.certified;
-    *certified = next_certified;
-    let next_request = next.request;
-    *request = next_request;
-    0
 }
 
 // Lays the state's table into the front of the buffer and its length into `length`. Answers 0, or the refusal's number, 8 or 20, and leaves all as it was.
@@ -99,14 +94,13 @@ pub extern "C" fn vongselik_parts_write_table<'a>(
     ensures length { length.new ≡ value (write_table (state_of (counts_of version processors jobs objects) processor_of.now may_read.entry.now may_write.entry.now
         active unlocked sleeping holder readers.entry.now writers.entry.now certified.now request.now) buffer.old) 0 length.old }
 {
-    let counts = Counts {
-        version,
-        processors,
-        jobs,
-        objects,
-    };
     let state = State {
-        counts,
+        counts: Counts {
+            version,
+            processors,
+            jobs,
+            objects,
+        },
         processor_of: *processor_of,
         may_read: *may_read,
         may_write: *may_write,
@@ -119,12 +113,5 @@ pub extern "C" fn vongselik_parts_write_table<'a>(
         certified: *certified,
         request: *request,
     };
-    let answer = table_writer::write_table(state, buffer);
-    match answer {
-        Written::Length(value) => {
-            *length = value;
-            0
-        }
-        Written::Refused(number) => number,
-    }
+    put(write_table(state, buffer), length)
 }
