@@ -1,7 +1,8 @@
 // Words, numbers, sets and answers on standard output.
 use events::Answer;
-use questions::{CeilingsAnswer, NamedAnswer, RankAnswer};
+use questions::{Ceilings, NamedLock};
 use ranks::RankSet;
+use state::Refusal;
 
 // Writes the text and, behind it, the number.
 pub(crate) fn say(text: &[u8], n: u64) {
@@ -45,32 +46,40 @@ pub(crate) fn say_answer(answer: Answer) {
 }
 
 // Writes the answer to a question for one rank.
-pub(crate) fn say_rank(answer: RankAnswer) {
+pub(crate) fn say_rank(answer: Result<u8, Refusal>) {
     match answer {
-        RankAnswer::Rank(rank) => say_number(rank),
-        RankAnswer::Refused(number) => say_refused(number),
+        Ok(rank) => say_number(rank),
+        Err(refusal) => say_refused(refusal.number()),
+    }
+}
+
+// Writes a length that was answered.
+pub(crate) fn say_length(answer: Result<usize, Refusal>) {
+    match answer {
+        Ok(length) => say(b" length ", length as u64),
+        Err(refusal) => say_refused(refusal.number()),
     }
 }
 
 // Writes the answer to the question for a named lock: holder and object.
-pub(crate) fn say_named(answer: NamedAnswer) {
+pub(crate) fn say_named(answer: Result<NamedLock, Refusal>) {
     match answer {
-        NamedAnswer::Lock { holder, object } => {
+        Ok(NamedLock { holder, object }) => {
             say_number(holder);
             say_number(object);
         }
-        NamedAnswer::Refused(number) => say_refused(number),
+        Err(refusal) => say_refused(refusal.number()),
     }
 }
 
 // Writes the answer to the question for an object's ceilings: write and absolute.
-pub(crate) fn say_ceilings(answer: CeilingsAnswer) {
+pub(crate) fn say_ceilings(answer: Result<Ceilings, Refusal>) {
     match answer {
-        CeilingsAnswer::Ceilings { write, absolute } => {
+        Ok(Ceilings { write, absolute }) => {
             say(b" ", write as u64);
             say(b" ", absolute as u64);
         }
-        CeilingsAnswer::Refused(number) => say_refused(number),
+        Err(refusal) => say_refused(refusal.number()),
     }
 }
 

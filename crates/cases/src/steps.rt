@@ -2,13 +2,11 @@
 ghost use Rattle.std.specs.Prelude.{◌≤◌};
 
 use crate::print::{
-    say, say_answer, say_bytes, say_ceilings, say_named, say_number, say_rank, say_ranks,
-    say_refused,
+    say, say_answer, say_bytes, say_ceilings, say_length, say_named, say_number, say_rank,
+    say_ranks, say_refused,
 };
 use crate::text::number_of;
-use page::PageAnswer;
-use state::State;
-use table_writer::Written;
+use state::{State, zero_state};
 
 // The kind of event that the letter stands for: S R W U F A C Z V, and 10 for others.
 fn kind_of(letter: u8) -> u8 {
@@ -36,31 +34,24 @@ fn play(state: State, letter: u8, rank: u8, object: u8) -> State {
 
 // T: writes how many bytes of the table the reader used, or its refusal.
 fn read_table(bytes: &[u8]) {
-    let read = table::read_table(bytes);
-    if read.refusal == 0 {
-        say(b" accepted, bytes ", read.used as u64);
-    } else {
-        say_refused(read.refusal);
+    match table::read_table(bytes) {
+        Ok(read) => say(b" accepted, bytes ", read.used as u64),
+        Err(refusal) => say_refused(refusal.number()),
     }
 }
 
 // E: writes the part of the table bytes that holds the job's entries, or the refusal.
 fn read_entries(bytes: &[u8], rank: u8) {
-    let mut number = 0;
-    let part = table::job_entries(bytes, rank, &mut number);
-    if number != 0 {
-        say_refused(number);
+    match table::job_entries(bytes, rank) {
+        Ok(part) => say_bytes(part),
+        Err(refusal) => say_refused(refusal.number()),
     }
-    say_bytes(part);
 }
 
 // L: lends the writer a buffer of 12 sevens; writes its answer and the buffer after it.
 fn write_table(state: State) {
     let mut buffer = [7; 12];
-    match table_writer::write_table(state, &mut buffer) {
-        Written::Length(length) => say(b" length ", length as u64),
-        Written::Refused(number) => say_refused(number),
-    }
+    say_length(table_writer::write_table(state, &mut buffer));
     io::write_all(1, b", buffer");
     say_bytes(&buffer);
 }
@@ -77,10 +68,7 @@ fn page_room(lines: u8, less: u8) -> usize
 
 // Lends the page writer the buffer; writes its answer and the buffer after it.
 fn write_page(state: State, buffer: &mut [u8]) {
-    match page::page(state, buffer) {
-        PageAnswer::Length(length) => say(b" length ", length as u64),
-        PageAnswer::Refused(number) => say_refused(number),
-    }
+    say_length(page::page(state, buffer));
     io::write_all(1, b", buffer\n");
     io::write_all(1, buffer);
 }
@@ -95,12 +83,13 @@ fn show_page(state: State, lines: u8, less: u8) {
 // G: lends the generator a buffer of 12 sevens for so many events from the seed; writes its answer and the buffer after it.
 fn make_events(state: State, seed: u8, count: u8) {
     let mut buffer = [7; 12];
-    let made = generator::make_events(state, seed as u32, count as usize, &mut buffer);
-    if made.refusal != 0 {
-        say_refused(made.refusal);
+    let seed = seed as u32;
+    let made = generator::make_events(state, seed, count as usize, &mut buffer);
+    if let Err(refusal) = made {
+        say_refused(refusal.number());
         io::write_all(1, b",");
     }
-    say(b" seed ", made.seed as u64);
+    say(b" seed ", made.unwrap_or(seed) as u64);
     io::write_all(1, b", buffer");
     say_bytes(&buffer);
 }
@@ -209,7 +198,8 @@ fn run_step(bytes: &[u8], state: State, letter: u8, rank: u8, object: u8) -> Sta
 // Runs the steps from the table's fresh state, each over the state that the one before it returned. A step is four characters:
 // a space, its letter, a rank and an object.
 pub(crate) fn run_steps(bytes: &[u8], steps: &[u8]) {
-    let mut state = table::read_table(bytes).state;
+    let read = table::read_table(bytes);
+    let mut state = read.map_or_else(|_| zero_state(), |read| read.state);
     for [_, letter, rank, object] in steps.as_chunks::<4>().0 {
         state = run_step(bytes, state, *letter, number_of(*rank), number_of(*object));
     }

@@ -5,6 +5,7 @@
 use arguments::argument;
 use files::{Opened, open};
 use loader::{EventBuffer, LoadError, Loaded, TableBuffer};
+use state::zero_state;
 use std::env::Env;
 use std::fs::File;
 use std::io::Input;
@@ -41,7 +42,9 @@ fn say_ended(ended: Result<(), LoadError>) {
         Err(LoadError::BadSeed) => b"bad seed",
         Err(LoadError::BadCount) => b"bad count",
         Err(LoadError::NotRead) => b"not read",
-        Err(LoadError::Refused(number)) => return say(b"refused by ", number as u64),
+        Err(LoadError::Refused(refusal)) => {
+            return say(b"refused by ", refusal.number() as u64);
+        }
         Err(LoadError::NotWritten) => b"not written",
     };
     io::write_all(STANDARD_OUTPUT, word);
@@ -80,8 +83,9 @@ fn write_record<R: Files<File = File>>(rt: &R, path: &[u8]) {
 // Writes whether the file `written` has what the generator makes at once of 50000 events from seed 7, on the table in the buffer.
 fn say_same<R: Files<File = File>>(rt: &R, table: &TableBuffer) {
     let read = table::read_table(table);
+    let state = read.map_or_else(|_| zero_state(), |read| read.state);
     let mut whole = [0; 150000];
-    generator::make_events(read.state, 7, 50000, &mut whole);
+    generator::make_events(state, 7, 50000, &mut whole);
     let mut written = [0; 150001];
     let file = open(rt, b"written");
     let length = io::read_full(file.as_raw_fd(), &mut written);
