@@ -10,6 +10,7 @@ use native.Mathlib.Decide.{dec_le}
 use lib.Dec.{ltb}
 use lib.Bits.{bit_and, and_zero_l, and_zero_r}
 use borrow.Author.Tests.{eqb-true, eq-eqb, ltb-true, ltb-false, lt-ltb, le-ltb, not-true}
+use Rattle.std.proofs.lemmas.Bool.Decides.{nat_tests}
 use Rattle.basics.specs.Choice.{same_test, and_true, and_left, and_right}
 use Rattle.basics.specs.Loops.{every, every-at, every_true, every-and, every_split}
 use Rattle.basics.specs.Arrays.{at}
@@ -128,9 +129,7 @@ module _ (s : State) (few : s.counts.jobs ≤ word_bits) (small : all_holders s.
   -- nobody, who may be what a lock weighs, is past every job
   below_ceiling : (declared a : ℕ) → a ≤ s.counts.jobs → ltb a (ceiling_of s.counts declared) ≡ ltb a (first word_bits declared)
   below_ceiling declared a l =
-      same_test (ltb a (ceiling_of s.counts declared)) (ltb a (first word_bits declared))
-      (λ t. lt-ltb a (first word_bits declared) (omega (arith, ltb-true a (ceiling_of s.counts declared) t)))
-      (λ t. lt-ltb a (ceiling_of s.counts declared) (omega (arith, ltb-true a (first word_bits declared) t)))
+      grind (arith, nat_tests)
 
   -- a read lock weighs its ceiling with its holder's rank as the cap
   weighs : (writing : Bool) (o a b : ℕ) → a ≤ s.counts.jobs → a < b → ltb a (weight s (mode writing) b o) ≡ ltb a (first word_bits (weighs_by writing s o))
@@ -138,9 +137,7 @@ module _ (s : State) (few : s.counts.jobs ≤ word_bits) (small : all_holders s.
   weighs false o a b l h = capped (write_ceiling_of s o) ∙ below_ceiling (weighs_by false s o) a l
     where
       capped : (ceiling : ℕ) → ltb a (min ceiling b) ≡ ltb a ceiling
-      capped ceiling =
-          same_test (ltb a (min ceiling b)) (ltb a ceiling)
-          (λ t. lt-ltb a ceiling (omega (arith, ltb-true a (min ceiling b) t))) (λ t. lt-ltb a (min ceiling b) (omega (arith, ltb-true a ceiling t)))
+      capped ceiling = grind (arith, nat_tests)
   weighs true o a b l h =
       ap (ltb a) (sym (weighing_ceiling s.counts (shares_with_none s o) (at s.may_read o) (at s.may_write o))) ∙ below_ceiling (weighs_by true s o) a l
 

@@ -9,7 +9,8 @@ use native.Mathlib.Decide.{dec_le}
 use lib.Dec.{eqb}
 use lib.Bits.{bit_and, and_zero_l, and_zero_r, or_zero_r}
 use borrow.Author.Tests.{eqb-true, eq-eqb, ltb-true}
-use Rattle.basics.specs.Choice.{clash, same_test, and_true, and_left, and_right, or_right, between_true, inside_between}
+use Rattle.std.proofs.lemmas.Bool.Decides.{nat_tests}
+use Rattle.basics.specs.Choice.{clash, same_test, and_true, and_left, and_right, or_right, inside_between}
 use Rattle.basics.specs.Loops.{every, every-at, every_true, every_split}
 use Rattle.basics.specs.Arrays.{at}
 use Rattle.ranks.specs.Ranks.{word_bits, is_empty, most_urgent, union, common, minus, subset, disjoint, at_most_one, up_to, less_one, unions}
@@ -111,51 +112,20 @@ module _ (first second certified : Bool) (rd wr : ℕ) where
   certified_well_lem = not certified || (second && certifiable rd wr)
 
   apart_once : apart first rd wr ≡ true → disjoint rd wr ≡ true
-  apart_once = go first
-    where
-      go : (b : Bool) → apart b rd wr ≡ true → disjoint rd wr ≡ true
-      go true e = alone_once rd wr e
-      go false e = and_left (disjoint rd wr) (at_most_one wr) e
+  apart_once e = grind (arith, alone_once rd wr)
 
   apart_alone : apart first rd wr ≡ true → certified_well_lem ≡ true → alone (first || certified) rd wr ≡ true
-  apart_alone = go first certified
-    where
-      go : (b c : Bool) → apart b rd wr ≡ true → not c || (second && certifiable rd wr) ≡ true → alone (b || c) rd wr ≡ true
-      go true c e w = e
-      go false false e w = and_true (at_most_one wr) _ (and_right (disjoint rd wr) (at_most_one wr) e) (or_right (is_empty wr) true refl)
-      go false true e w =
-          let none = and_right (not (is_empty wr)) (is_empty rd) (and_right second (certifiable rd wr) w) in
-          and_true (at_most_one wr) _ (and_right (disjoint rd wr) (at_most_one wr) e) (or_right (is_empty wr) (is_empty rd) none)
+  apart_alone e w = grind arith
 
   well_certify : certified_well_lem ≡ true → not certified || (second && not (is_empty wr)) ≡ true
-  well_certify = go certified
-    where
-      go : (c : Bool) → not c || (second && certifiable rd wr) ≡ true → not c || (second && not (is_empty wr)) ≡ true
-      go false w = refl
-      go true w = and_true second _ (and_left second _ w) (and_left (not (is_empty wr)) (is_empty rd) (and_right second (certifiable rd wr) w))
+  well_certify w = grind arith
 
   -- and the other way round
   alone_apart_too : alone (first || certified) rd wr ≡ true → disjoint rd wr ≡ true → apart first rd wr ≡ true
-  alone_apart_too = go first
-    where
-      go : (b : Bool) → alone (b || certified) rd wr ≡ true → disjoint rd wr ≡ true → apart b rd wr ≡ true
-      go true e d = e
-      go false e d = and_true (disjoint rd wr) (at_most_one wr) d (and_left (at_most_one wr) _ e)
+  alone_apart_too e d = grind arith
 
   fits_well : alone (first || certified) rd wr ≡ true → not certified || (second && not (is_empty wr)) ≡ true → certified_well_lem ≡ true
-  fits_well = go first certified
-    where
-      unread : (n t : Bool) → n ≡ true → not t ≡ true → t || (not n || is_empty rd) ≡ true → is_empty rd ≡ true
-      unread true false y w z = z
-      unread true true y w z = absurd (clash w refl)
-      unread false t y w z = absurd (clash y refl)
-
-      go : (b c : Bool) → alone (b || c) rd wr ≡ true → not c || (second && not (is_empty wr)) ≡ true → not c || (second && certifiable rd wr) ≡ true
-      go b false e w = refl
-      go b true e w =
-          let written = and_right second (not (is_empty wr)) w in
-          and_true second _ (and_left second _ w) (and_true (not (is_empty wr)) (is_empty rd) written
-          (unread (b || true) (is_empty wr) (or_right b true refl) written (and_right (at_most_one wr) _ e)))
+  fits_well e w = grind arith
 
 pub bad_counts : (s : State) → counts_fit s && version_fits s ≡ false → well_formed s ≡ false
 bad_counts s e = not_well (well_formed s) refl
@@ -238,25 +208,17 @@ module _ (s : State) (counts : counts_fit s ≡ true) (version : version_fits s 
     pub waits : waits_fit (marks_joined s) ≡ true
 
   tested : each ≡ true → Tested
-  tested t =
-      let t8 = and_left _ (waits_fit (marks_joined s)) t in
-      let t7 = and_left _ (processors_fit s) t8 in
-      let t6 = and_left _ (every most_objects well) t7 in
-      let t5 = and_left _ (subset (union s.unlocked s.sleeping) s.active) t6 in
-      let t4 = and_left _ (subset s.active (up_to s.counts.jobs)) t5 in
-      let t3 = and_left _ (subset seen.held s.active) t4 in
-      let t2 = and_left _ (subset seen.declared (up_to s.counts.jobs)) t3 in
-      record {
-        in_order = and_left _ _ t2;
-        none_outside = and_right (is_empty seen.wrong) _ t2;
-        declared = and_right _ (subset seen.declared (up_to s.counts.jobs)) t3;
-        held = and_right _ (subset seen.held s.active) t4;
-        active = and_right _ (subset s.active (up_to s.counts.jobs)) t5;
-        marks = and_right _ (subset (union s.unlocked s.sleeping) s.active) t6;
-        certified = and_right _ (every most_objects well) t7;
-        processors = and_right _ (processors_fit s) t8;
-        waits = and_right _ (waits_fit (marks_joined s)) t;
-      }
+  tested t = record {
+    in_order = grind arith;
+    none_outside = grind arith;
+    declared = grind arith;
+    held = grind arith;
+    active = grind arith;
+    marks = grind arith;
+    certified = grind arith;
+    processors = grind arith;
+    waits = grind arith;
+  }
 
   -- ---- the test passes, so each object fits
 
@@ -324,11 +286,7 @@ module _ (s : State) (counts : counts_fit s ≡ true) (version : version_fits s 
         (empty_union (holders s read o) (holders s write o) ∙ and_true _ _ (eq-eqb (holders s read o) 0 no_reader) (eq-eqb (holders s write o) 0 no_writer))
       where
         beyond : is_object s o ≡ false
-        beyond = not_inside (is_object s o) refl
-          where
-            not_inside : (x : Bool) → is_object s o ≡ x → x ≡ false
-            not_inside true e = absurd (omega (arith, between_true 1 s.counts.objects o e))
-            not_inside false e = refl
+        beyond = grind (arith, nat_tests)
 
     in_order_seen : is_empty seen.wrong ≡ true
     in_order_seen =
