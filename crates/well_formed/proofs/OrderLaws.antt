@@ -12,7 +12,7 @@ use lib.Bits.{bit_and, and_zero_l, and_zero_r}
 use borrow.Author.Tests.{eqb-true, eq-eqb, ltb-true, ltb-false, lt-ltb, le-ltb, not-true}
 use Rattle.std.proofs.lemmas.Bool.Decides.{nat_tests}
 use Rattle.basics.specs.Choice.{same_test, and_true, and_left, and_right}
-use Rattle.basics.specs.Loops.{every, every-at, every_true, every-and, every_split}
+use Rattle.basics.specs.Loops.{every, every-at, every_true, every-and}
 use Rattle.basics.specs.Arrays.{at}
 use Rattle.ranks.specs.Ranks.{word_bits, is_empty, member, first, union, but_first, disjoint, before, unions}
 use Rattle.ranks.specs.RankLaws.{member_pos, member-le, member-minus, disjoint-member, member-disjoint}
@@ -23,6 +23,7 @@ use Rattle.state.specs.State.{most_objects, read, write, holders, holders_any, a
 use Rattle.state.specs.Weights.{weight, ceiling_of, write_ceiling_of}
 use Rattle.state.specs.WellFormed.{above_lock, above_locks, in_order, holders_in_order}
 use Rattle.state.specs.WeightLaws.{weighing_ceiling}
+use Rattle.well_formed.proofs.LoopLaws.{block_more}
 use Rattle.well_formed.specs.Survey.{block_size, reached, only_first, weighs_by, readers_ordered, writers_ordered, object_ordered}
 
 -- ---- where no holder has to be looked at
@@ -61,13 +62,12 @@ first_alone_all n held declared locked d =
 
 -- ---- a block of objects more, behind the first i
 
-pub ordered_more : (i wrong reading writing : ℕ) (p q : ℕ → Bool) → is_empty wrong ≡ every i (λ o. p o && q o)
+pub ordered_more : (i m wrong reading writing : ℕ) (p q : ℕ → Bool) → i + block_size ≡ m → is_empty wrong ≡ every i (λ o. p o && q o)
     → is_empty reading ≡ every block_size (λ k. p (i + k)) → is_empty writing ≡ every block_size (λ k. q (i + k))
-    → is_empty (union wrong (union reading writing)) ≡ every (i + block_size) (λ o. p o && q o)
-ordered_more i wrong reading writing p q e f g =
-    empty_union wrong (union reading writing)
-    ∙ ap₂ ◌&&◌ e (empty_union reading writing ∙ ap₂ ◌&&◌ f g ∙ sym (every-and block_size (λ k. p (i + k)) (λ k. q (i + k))))
-    ∙ sym (every_split i block_size (λ o. p o && q o))
+    → is_empty (union wrong (union reading writing)) ≡ every m (λ o. p o && q o)
+ordered_more i m wrong reading writing p q end e f g =
+    block_more i block_size m wrong (union reading writing) (λ o. p o && q o) end e
+    (empty_union reading writing ∙ ap₂ ◌&&◌ f g ∙ sym (every-and block_size (λ k. p (i + k)) (λ k. q (i + k))))
 
 -- ---- one lock: its holders are among all holders; a job that is more urgent than one of them is more urgent than what the lock weighs if and only if
 -- it is more urgent than the declared ranks

@@ -11,7 +11,7 @@ use lib.Bits.{bit_and, and_zero_l, and_zero_r, or_zero_r}
 use borrow.Author.Tests.{eqb-true, eq-eqb, ltb-true}
 use Rattle.std.proofs.lemmas.Bool.Decides.{nat_tests}
 use Rattle.basics.specs.Choice.{clash, same_test, and_true, and_left, and_right, or_right, inside_between}
-use Rattle.basics.specs.Loops.{every, every-at, every_true, every_split}
+use Rattle.basics.specs.Loops.{every, every-at, every_true}
 use Rattle.basics.specs.Arrays.{at}
 use Rattle.ranks.specs.Ranks.{word_bits, is_empty, most_urgent, union, common, minus, subset, disjoint, at_most_one, up_to, less_one, unions}
 use Rattle.ranks.specs.UnionLaws.{empty_union, empty_minus, unions_both, unions_split, unions_empty, unions-subset, subset-union, subset-up_to, subset-le, empty_at_most_one}
@@ -24,6 +24,7 @@ use Rattle.state.specs.WellFormed.{locked_once, alone, written_alone, one_lock_e
 use Rattle.state.specs.Clauses.{Clauses, clauses, well_formed_lem, counts_within_lem}
 use Rattle.well_formed.proofs.WaitLaws.{marks_joined, waits_joined}
 use Rattle.well_formed.proofs.OrderLaws.{ordered_clause}
+use Rattle.well_formed.proofs.LoopLaws.{block_more}
 use Rattle.well_formed.specs.Survey.{apart, in_order, block_size, in_blocks, object_in_order, all_of, Surveyed, certifiable, certified_well, object_ordered}
 
 -- ---- one object
@@ -56,7 +57,7 @@ unlocked_in_order none mr mw rd wr e =
 
 -- ---- a block of objects more, behind the first i
 
-module _ (s : State) (none : Bool) (i : ℕ) where
+module _ (s : State) (none : Bool) (i m : ℕ) (end : i + block_size ≡ m) where
   abbrev order : ℕ → Bool
   order = object_in_order s none
 
@@ -67,17 +68,14 @@ module _ (s : State) (none : Bool) (i : ℕ) where
   block_each : block_locks ≡ unions block_size (λ k. holders_any s (i + k))
   block_each = unions_both block_size (λ k. at s.readers (i + k)) (λ k. at s.writers (i + k))
 
-  pub held_more : union (unions i (holders_any s)) block_locks ≡ unions (i + block_size) (holders_any s)
-  held_more = ap (union (unions i (holders_any s))) block_each ∙ unions_split i block_size (holders_any s)
-
-  pub order_more : (wrong block : ℕ) → is_empty wrong ≡ every i order → is_empty block ≡ every block_size (λ k. order (i + k))
-      → is_empty (union wrong block) ≡ every (i + block_size) order
-  order_more wrong block e f = empty_union wrong block ∙ ap₂ ◌&&◌ e f ∙ sym (every_split i block_size order)
+  pub held_more : union (unions i (holders_any s)) block_locks ≡ unions m (holders_any s)
+  held_more =
+      ap (union (unions i (holders_any s))) block_each ∙ unions_split i block_size (holders_any s) ∙ ap (λ (k : ℕ). unions k (holders_any s)) end
 
   -- a block without locks is in order
-  pub unlocked_more : (wrong : ℕ) → is_empty wrong ≡ every i order → block_locks ≡ 0 → is_empty wrong ≡ every (i + block_size) order
+  pub unlocked_more : (wrong : ℕ) → is_empty wrong ≡ every i order → block_locks ≡ 0 → is_empty wrong ≡ every m order
   unlocked_more wrong e no_lock =
-      ap is_empty (sym (or_zero_r wrong)) ∙ order_more wrong 0 e (sym (every_true block_size (λ k. order (i + k)) in_order))
+      ap is_empty (sym (or_zero_r wrong)) ∙ block_more i block_size m wrong 0 order end e (sym (every_true block_size (λ k. order (i + k)) in_order))
     where
       all : every block_size (λ k. is_empty (holders_any s (i + k))) ≡ true
       all = sym (unions_empty block_size (λ k. holders_any s (i + k))) ∙ ap is_empty (sym block_each) ∙ eq-eqb block_locks 0 no_lock

@@ -10,7 +10,7 @@ use lib.ListN.{get_or}
 use lib.Dec.{eqb}
 use borrow.Author.Tests.{eqb-true, eq-eqb, ne_eqb}
 use Rattle.std.specs.Prelude.{if◌then◌else◌}
-use Rattle.basics.specs.Choice.{between, clash}
+use Rattle.basics.specs.Choice.{between}
 use Rattle.basics.specs.Arrays.{at, at_index, at_next}
 use Rattle.basics.specs.Loops.{every, every-at, every_true, every_same, every-and}
 use Rattle.state.specs.declared.State.{State}
@@ -81,14 +81,6 @@ pub none_wait : (s : State) (n from : ℕ) → every n (λ j. eqb (request_of s 
 none_wait s n from e =
     every_true n (λ j. wait_fits s (from + j)) (λ j a b.
     wait_none s (from + j) (eqb-true (request_of s (from + j)) 0 (every-at n (λ j. eqb (request_of s (from + j)) 0) j e a b)))
-
--- some of n, from an index on, fail
-pub part_fails : (m from n : ℕ) (p : ℕ → Bool) → from + n ≤ m → every n (λ k. p (from + k)) ≡ false → every m p ≡ false
-part_fails m from n p h fails = go (every m p) refl
-  where
-    go : (b : Bool) → every m p ≡ b → b ≡ false
-    go true e = absurd (clash (every_true n (λ k. p (from + k)) (λ k a b. every-at m p (from + k) e (omega arith) (omega arith))) fails)
-    go false e = refl
 
 -- ---- those that have unlocked and those that sleep, together: a waiting job is none of them
 
