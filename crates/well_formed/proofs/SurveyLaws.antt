@@ -1,7 +1,7 @@
 -- What the code gathers of the objects says of each clause of a well-formed state: the joined sets are empty, or lie in a set,
 -- if and only if each object's do; and the holders that it gathers are all there are (their order: OrderLaws).
 -- Assumes nothing.
-use mathlib.Core.Path.{◌≡◌, refl, sym, ap, ap₂, ◌∙◌}
+use mathlib.Core.Path.{◌≡◌, sym, ap, ap₂, ◌∙◌}
 use mathlib.Core.Bool.{Bool, true, false, not, ◌&&◌, ◌||◌}
 use Prim.Native.Nat.{ℕ, ◌+◌, ◌-◌, ◌^◌, ◌≤◌, ◌<◌}
 use native.Mathlib.Omega.{arith}
@@ -13,7 +13,7 @@ use Rattle.std.proofs.lemmas.Bool.Decides.{nat_tests}
 use Rattle.basics.specs.Choice.{clash, same_test, and_true, and_left, and_right, or_right, inside_between}
 use Rattle.basics.specs.Loops.{every, every-at, every_true}
 use Rattle.basics.specs.Arrays.{at}
-use Rattle.ranks.specs.Ranks.{word_bits, is_empty, most_urgent, union, common, minus, subset, disjoint, at_most_one, up_to, less_one, unions}
+use Rattle.ranks.specs.Ranks.{word_bits, is_empty, most_urgent, union, common, minus, subset, disjoint, up_to, less_one, unions}
 use Rattle.ranks.specs.UnionLaws.{empty_union, empty_minus, unions_both, unions_split, unions_empty, unions-subset, subset-union, subset-up_to, subset-le, empty_at_most_one}
 use Rattle.ranks.specs.LessOneLaws.{less_one_alone, less_one-at_most_one}
 use Rattle.state.specs.declared.State.{State}
@@ -52,8 +52,7 @@ unlocked_in_order none mr mw rd wr e =
     ∙ ap₂ ◌&&◌ (ap₂ ◌&&◌ (none_subset mr) (none_subset mw)) (apart_none none)
   where
     apart_none : (b : Bool) → apart b 0 0 ≡ true
-    apart_none true = and_true (at_most_one 0) _ empty_at_most_one refl
-    apart_none false = and_true (disjoint 0 0) _ (none_subset 0) empty_at_most_one
+    apart_none b = grind (arith, none_subset 0, empty_at_most_one)
 
 -- ---- a block of objects more, behind the first i
 
@@ -97,11 +96,7 @@ pub record ObjectFits (s : State) (o : ℕ) : Type 0 where
 
 -- a write lock that is alone is no second lock of its holder
 alone_once : (rd wr : ℕ) → alone true rd wr ≡ true → disjoint rd wr ≡ true
-alone_once rd wr w = go (eqb wr 0) refl (and_right (at_most_one wr) (eqb wr 0 || eqb rd 0) w)
-  where
-    go : (t : Bool) → eqb wr 0 ≡ t → t || eqb rd 0 ≡ true → disjoint rd wr ≡ true
-    go true e z = eq-eqb (bit_and rd wr) 0 (ap (bit_and rd) (eqb-true wr 0 e) ∙ and_zero_r rd)
-    go false e z = eq-eqb (bit_and rd wr) 0 (ap (λ (n : ℕ). bit_and n wr) (eqb-true rd 0 z) ∙ and_zero_l wr)
+alone_once rd wr w = grind (arith, nat_tests, and_zero_r rd, and_zero_l wr)
 
 -- the locks are apart, by version, and a certified object is written and not read: so nobody has two of them, a lock that shares with none is alone,
 -- and the certify lock fits
@@ -126,11 +121,7 @@ module _ (first second certified : Bool) (rd wr : ℕ) where
   fits_well e w = grind arith
 
 pub bad_counts : (s : State) → counts_fit s && version_fits s ≡ false → well_formed s ≡ false
-bad_counts s e = not_well (well_formed s) refl
-  where
-    not_well : (b : Bool) → well_formed s ≡ b → b ≡ false
-    not_well true w = let c = clauses s w in absurd (clash (and_true (counts_fit s) (version_fits s) c.counts c.version) e)
-    not_well false w = refl
+bad_counts s e = same_test (well_formed s) false (λ w. let c = clauses s w in absurd (clash (and_true _ _ c.counts c.version) e)) (λ f. grind arith)
 
 -- ---- all objects
 
