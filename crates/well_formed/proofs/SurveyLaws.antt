@@ -264,18 +264,11 @@ module _ (s : State) (counts : counts_fit s ≡ true) (version : version_fits s 
     none_outside : (o : ℕ) → 1 ≤ o → s.counts.objects < o → o ≤ most_objects → empty o ≡ true
     none_outside o low a b =
         let F = fits o low b in
-        let rights : is_empty (declared_any s o) ≡ true = ap (λ (x : Bool). x || is_empty (declared_any s o)) (sym beyond) ∙ F.declaration in
-        let each = sym (empty_union (declared s read o) (declared s write o)) ∙ rights in
+        let beyond : is_object s o ≡ false = grind (arith, nat_tests) in
+        let rights : is_empty (declared_any s o) ≡ true = grind (arith, F.declaration) in
         let reading = subset-le (holders s read o) (declared s read o) (and_left _ _ F.right) in
         let writing = subset-le (holders s write o) (declared s write o) (and_right (subset (holders s read o) (declared s read o)) _ F.right) in
-        let no_reader : holders s read o ≡ 0 = omega (arith, eqb-true (declared s read o) 0 (and_left _ _ each)) in
-        let no_writer : holders s write o ≡ 0 = omega (arith, eqb-true (declared s write o) 0 (and_right (is_empty (declared s read o)) _ each)) in
-        empty_union (declared_any s o) (holders_any s o)
-        ∙ and_true _ _ rights
-        (empty_union (holders s read o) (holders s write o) ∙ and_true _ _ (eq-eqb (holders s read o) 0 no_reader) (eq-eqb (holders s write o) 0 no_writer))
-      where
-        beyond : is_object s o ≡ false
-        beyond = grind (arith, nat_tests)
+        grind (arith, nat_tests, empty_union (declared_any s o) (holders_any s o), empty_union (declared s read o) (declared s write o), empty_union (holders s read o) (holders s write o))
 
     in_order_seen : is_empty seen.wrong ≡ true
     in_order_seen =
