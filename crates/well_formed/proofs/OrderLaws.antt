@@ -10,8 +10,9 @@ use native.Mathlib.Decide.{dec_le}
 use lib.Dec.{ltb}
 use lib.Bits.{bit_and, and_zero_l, and_zero_r}
 use borrow.Author.Tests.{eqb-true, eq-eqb, ltb-true, ltb-false, lt-ltb, le-ltb, not-true}
+use Rattle.std.proofs.lemmas.Bool.Decides.{nat_tests}
 use Rattle.basics.specs.Choice.{same_test, and_true, and_left, and_right}
-use Rattle.basics.specs.Loops.{every, every-at, every_true, every-and, every_split}
+use Rattle.basics.specs.Loops.{every, every-at, every_true, every-and}
 use Rattle.basics.specs.Arrays.{at}
 use Rattle.ranks.specs.Ranks.{word_bits, is_empty, member, first, union, but_first, disjoint, before, unions}
 use Rattle.ranks.specs.RankLaws.{member_pos, member-le, member-minus, disjoint-member, member-disjoint}
@@ -22,6 +23,7 @@ use Rattle.state.specs.State.{most_objects, read, write, holders, holders_any, a
 use Rattle.state.specs.Weights.{weight, ceiling_of, write_ceiling_of}
 use Rattle.state.specs.WellFormed.{above_lock, above_locks, in_order, holders_in_order}
 use Rattle.state.specs.WeightLaws.{weighing_ceiling}
+use Rattle.well_formed.proofs.LoopLaws.{block_more}
 use Rattle.well_formed.specs.Survey.{block_size, reached, only_first, weighs_by, readers_ordered, writers_ordered, object_ordered}
 
 -- ---- where no holder has to be looked at
@@ -60,13 +62,12 @@ first_alone_all n held declared locked d =
 
 -- ---- a block of objects more, behind the first i
 
-pub ordered_more : (i wrong reading writing : ℕ) (p q : ℕ → Bool) → is_empty wrong ≡ every i (λ o. p o && q o)
+pub ordered_more : (i m wrong reading writing : ℕ) (p q : ℕ → Bool) → i + block_size ≡ m → is_empty wrong ≡ every i (λ o. p o && q o)
     → is_empty reading ≡ every block_size (λ k. p (i + k)) → is_empty writing ≡ every block_size (λ k. q (i + k))
-    → is_empty (union wrong (union reading writing)) ≡ every (i + block_size) (λ o. p o && q o)
-ordered_more i wrong reading writing p q e f g =
-    empty_union wrong (union reading writing)
-    ∙ ap₂ ◌&&◌ e (empty_union reading writing ∙ ap₂ ◌&&◌ f g ∙ sym (every-and block_size (λ k. p (i + k)) (λ k. q (i + k))))
-    ∙ sym (every_split i block_size (λ o. p o && q o))
+    → is_empty (union wrong (union reading writing)) ≡ every m (λ o. p o && q o)
+ordered_more i m wrong reading writing p q end e f g =
+    block_more i block_size m wrong (union reading writing) (λ o. p o && q o) end e
+    (empty_union reading writing ∙ ap₂ ◌&&◌ f g ∙ sym (every-and block_size (λ k. p (i + k)) (λ k. q (i + k))))
 
 -- ---- one lock: its holders are among all holders; a job that is more urgent than one of them is more urgent than what the lock weighs if and only if
 -- it is more urgent than the declared ranks
@@ -128,9 +129,7 @@ module _ (s : State) (few : s.counts.jobs ≤ word_bits) (small : all_holders s.
   -- nobody, who may be what a lock weighs, is past every job
   below_ceiling : (declared a : ℕ) → a ≤ s.counts.jobs → ltb a (ceiling_of s.counts declared) ≡ ltb a (first word_bits declared)
   below_ceiling declared a l =
-      same_test (ltb a (ceiling_of s.counts declared)) (ltb a (first word_bits declared))
-      (λ t. lt-ltb a (first word_bits declared) (omega (arith, ltb-true a (ceiling_of s.counts declared) t)))
-      (λ t. lt-ltb a (ceiling_of s.counts declared) (omega (arith, ltb-true a (first word_bits declared) t)))
+      grind (arith, nat_tests)
 
   -- a read lock weighs its ceiling with its holder's rank as the cap
   weighs : (writing : Bool) (o a b : ℕ) → a ≤ s.counts.jobs → a < b → ltb a (weight s (mode writing) b o) ≡ ltb a (first word_bits (weighs_by writing s o))
@@ -138,9 +137,7 @@ module _ (s : State) (few : s.counts.jobs ≤ word_bits) (small : all_holders s.
   weighs false o a b l h = capped (write_ceiling_of s o) ∙ below_ceiling (weighs_by false s o) a l
     where
       capped : (ceiling : ℕ) → ltb a (min ceiling b) ≡ ltb a ceiling
-      capped ceiling =
-          same_test (ltb a (min ceiling b)) (ltb a ceiling)
-          (λ t. lt-ltb a ceiling (omega (arith, ltb-true a (min ceiling b) t))) (λ t. lt-ltb a (min ceiling b) (omega (arith, ltb-true a ceiling t)))
+      capped ceiling = grind (arith, nat_tests)
   weighs true o a b l h =
       ap (ltb a) (sym (weighing_ceiling s.counts (shares_with_none s o) (at s.may_read o) (at s.may_write o))) ∙ below_ceiling (weighs_by true s o) a l
 

@@ -1,7 +1,7 @@
 -- What the code gathers of the objects says of each clause of a well-formed state: the joined sets are empty, or lie in a set,
 -- if and only if each object's do; and the holders that it gathers are all there are (their order: OrderLaws).
 -- Assumes nothing.
-use mathlib.Core.Path.{◌≡◌, refl, sym, ap, ap₂, ◌∙◌}
+use mathlib.Core.Path.{◌≡◌, sym, ap, ap₂, ◌∙◌}
 use mathlib.Core.Bool.{Bool, true, false, not, ◌&&◌, ◌||◌}
 use Prim.Native.Nat.{ℕ, ◌+◌, ◌-◌, ◌^◌, ◌≤◌, ◌<◌}
 use native.Mathlib.Omega.{arith}
@@ -9,10 +9,11 @@ use native.Mathlib.Decide.{dec_le}
 use lib.Dec.{eqb}
 use lib.Bits.{bit_and, and_zero_l, and_zero_r, or_zero_r}
 use borrow.Author.Tests.{eqb-true, eq-eqb, ltb-true}
-use Rattle.basics.specs.Choice.{clash, same_test, and_true, and_left, and_right, or_right, between_true, inside_between}
-use Rattle.basics.specs.Loops.{every, every-at, every_true, every_split}
+use Rattle.std.proofs.lemmas.Bool.Decides.{nat_tests}
+use Rattle.basics.specs.Choice.{clash, same_test, and_true, and_left, and_right, or_right, inside_between}
+use Rattle.basics.specs.Loops.{every, every-at, every_true}
 use Rattle.basics.specs.Arrays.{at}
-use Rattle.ranks.specs.Ranks.{word_bits, is_empty, most_urgent, union, common, minus, subset, disjoint, at_most_one, up_to, less_one, unions}
+use Rattle.ranks.specs.Ranks.{word_bits, is_empty, most_urgent, union, common, minus, subset, disjoint, up_to, less_one, unions}
 use Rattle.ranks.specs.UnionLaws.{empty_union, empty_minus, unions_both, unions_split, unions_empty, unions-subset, subset-union, subset-up_to, subset-le, empty_at_most_one}
 use Rattle.ranks.specs.LessOneLaws.{less_one_alone, less_one-at_most_one}
 use Rattle.state.specs.declared.State.{State}
@@ -23,6 +24,7 @@ use Rattle.state.specs.WellFormed.{locked_once, alone, written_alone, one_lock_e
 use Rattle.state.specs.Clauses.{Clauses, clauses, well_formed_lem, counts_within_lem}
 use Rattle.well_formed.proofs.WaitLaws.{marks_joined, waits_joined}
 use Rattle.well_formed.proofs.OrderLaws.{ordered_clause}
+use Rattle.well_formed.proofs.LoopLaws.{block_more}
 use Rattle.well_formed.specs.Survey.{apart, in_order, block_size, in_blocks, object_in_order, all_of, Surveyed, certifiable, certified_well, object_ordered}
 
 -- ---- one object
@@ -50,12 +52,11 @@ unlocked_in_order none mr mw rd wr e =
     ∙ ap₂ ◌&&◌ (ap₂ ◌&&◌ (none_subset mr) (none_subset mw)) (apart_none none)
   where
     apart_none : (b : Bool) → apart b 0 0 ≡ true
-    apart_none true = and_true (at_most_one 0) _ empty_at_most_one refl
-    apart_none false = and_true (disjoint 0 0) _ (none_subset 0) empty_at_most_one
+    apart_none b = grind (arith, none_subset 0, empty_at_most_one)
 
 -- ---- a block of objects more, behind the first i
 
-module _ (s : State) (none : Bool) (i : ℕ) where
+module _ (s : State) (none : Bool) (i m : ℕ) (end : i + block_size ≡ m) where
   abbrev order : ℕ → Bool
   order = object_in_order s none
 
@@ -66,17 +67,14 @@ module _ (s : State) (none : Bool) (i : ℕ) where
   block_each : block_locks ≡ unions block_size (λ k. holders_any s (i + k))
   block_each = unions_both block_size (λ k. at s.readers (i + k)) (λ k. at s.writers (i + k))
 
-  pub held_more : union (unions i (holders_any s)) block_locks ≡ unions (i + block_size) (holders_any s)
-  held_more = ap (union (unions i (holders_any s))) block_each ∙ unions_split i block_size (holders_any s)
-
-  pub order_more : (wrong block : ℕ) → is_empty wrong ≡ every i order → is_empty block ≡ every block_size (λ k. order (i + k))
-      → is_empty (union wrong block) ≡ every (i + block_size) order
-  order_more wrong block e f = empty_union wrong block ∙ ap₂ ◌&&◌ e f ∙ sym (every_split i block_size order)
+  pub held_more : union (unions i (holders_any s)) block_locks ≡ unions m (holders_any s)
+  held_more =
+      ap (union (unions i (holders_any s))) block_each ∙ unions_split i block_size (holders_any s) ∙ ap (λ (k : ℕ). unions k (holders_any s)) end
 
   -- a block without locks is in order
-  pub unlocked_more : (wrong : ℕ) → is_empty wrong ≡ every i order → block_locks ≡ 0 → is_empty wrong ≡ every (i + block_size) order
+  pub unlocked_more : (wrong : ℕ) → is_empty wrong ≡ every i order → block_locks ≡ 0 → is_empty wrong ≡ every m order
   unlocked_more wrong e no_lock =
-      ap is_empty (sym (or_zero_r wrong)) ∙ order_more wrong 0 e (sym (every_true block_size (λ k. order (i + k)) in_order))
+      ap is_empty (sym (or_zero_r wrong)) ∙ block_more i block_size m wrong 0 order end e (sym (every_true block_size (λ k. order (i + k)) in_order))
     where
       all : every block_size (λ k. is_empty (holders_any s (i + k))) ≡ true
       all = sym (unions_empty block_size (λ k. holders_any s (i + k))) ∙ ap is_empty (sym block_each) ∙ eq-eqb block_locks 0 no_lock
@@ -98,11 +96,7 @@ pub record ObjectFits (s : State) (o : ℕ) : Type 0 where
 
 -- a write lock that is alone is no second lock of its holder
 alone_once : (rd wr : ℕ) → alone true rd wr ≡ true → disjoint rd wr ≡ true
-alone_once rd wr w = go (eqb wr 0) refl (and_right (at_most_one wr) (eqb wr 0 || eqb rd 0) w)
-  where
-    go : (t : Bool) → eqb wr 0 ≡ t → t || eqb rd 0 ≡ true → disjoint rd wr ≡ true
-    go true e z = eq-eqb (bit_and rd wr) 0 (ap (bit_and rd) (eqb-true wr 0 e) ∙ and_zero_r rd)
-    go false e z = eq-eqb (bit_and rd wr) 0 (ap (λ (n : ℕ). bit_and n wr) (eqb-true rd 0 z) ∙ and_zero_l wr)
+alone_once rd wr w = grind (arith, nat_tests, and_zero_r rd, and_zero_l wr)
 
 -- the locks are apart, by version, and a certified object is written and not read: so nobody has two of them, a lock that shares with none is alone,
 -- and the certify lock fits
@@ -111,58 +105,23 @@ module _ (first second certified : Bool) (rd wr : ℕ) where
   certified_well_lem = not certified || (second && certifiable rd wr)
 
   apart_once : apart first rd wr ≡ true → disjoint rd wr ≡ true
-  apart_once = go first
-    where
-      go : (b : Bool) → apart b rd wr ≡ true → disjoint rd wr ≡ true
-      go true e = alone_once rd wr e
-      go false e = and_left (disjoint rd wr) (at_most_one wr) e
+  apart_once e = grind (arith, alone_once rd wr)
 
   apart_alone : apart first rd wr ≡ true → certified_well_lem ≡ true → alone (first || certified) rd wr ≡ true
-  apart_alone = go first certified
-    where
-      go : (b c : Bool) → apart b rd wr ≡ true → not c || (second && certifiable rd wr) ≡ true → alone (b || c) rd wr ≡ true
-      go true c e w = e
-      go false false e w = and_true (at_most_one wr) _ (and_right (disjoint rd wr) (at_most_one wr) e) (or_right (is_empty wr) true refl)
-      go false true e w =
-          let none = and_right (not (is_empty wr)) (is_empty rd) (and_right second (certifiable rd wr) w) in
-          and_true (at_most_one wr) _ (and_right (disjoint rd wr) (at_most_one wr) e) (or_right (is_empty wr) (is_empty rd) none)
+  apart_alone e w = grind arith
 
   well_certify : certified_well_lem ≡ true → not certified || (second && not (is_empty wr)) ≡ true
-  well_certify = go certified
-    where
-      go : (c : Bool) → not c || (second && certifiable rd wr) ≡ true → not c || (second && not (is_empty wr)) ≡ true
-      go false w = refl
-      go true w = and_true second _ (and_left second _ w) (and_left (not (is_empty wr)) (is_empty rd) (and_right second (certifiable rd wr) w))
+  well_certify w = grind arith
 
   -- and the other way round
   alone_apart_too : alone (first || certified) rd wr ≡ true → disjoint rd wr ≡ true → apart first rd wr ≡ true
-  alone_apart_too = go first
-    where
-      go : (b : Bool) → alone (b || certified) rd wr ≡ true → disjoint rd wr ≡ true → apart b rd wr ≡ true
-      go true e d = e
-      go false e d = and_true (disjoint rd wr) (at_most_one wr) d (and_left (at_most_one wr) _ e)
+  alone_apart_too e d = grind arith
 
   fits_well : alone (first || certified) rd wr ≡ true → not certified || (second && not (is_empty wr)) ≡ true → certified_well_lem ≡ true
-  fits_well = go first certified
-    where
-      unread : (n t : Bool) → n ≡ true → not t ≡ true → t || (not n || is_empty rd) ≡ true → is_empty rd ≡ true
-      unread true false y w z = z
-      unread true true y w z = absurd (clash w refl)
-      unread false t y w z = absurd (clash y refl)
-
-      go : (b c : Bool) → alone (b || c) rd wr ≡ true → not c || (second && not (is_empty wr)) ≡ true → not c || (second && certifiable rd wr) ≡ true
-      go b false e w = refl
-      go b true e w =
-          let written = and_right second (not (is_empty wr)) w in
-          and_true second _ (and_left second _ w) (and_true (not (is_empty wr)) (is_empty rd) written
-          (unread (b || true) (is_empty wr) (or_right b true refl) written (and_right (at_most_one wr) _ e)))
+  fits_well e w = grind arith
 
 pub bad_counts : (s : State) → counts_fit s && version_fits s ≡ false → well_formed s ≡ false
-bad_counts s e = not_well (well_formed s) refl
-  where
-    not_well : (b : Bool) → well_formed s ≡ b → b ≡ false
-    not_well true w = let c = clauses s w in absurd (clash (and_true (counts_fit s) (version_fits s) c.counts c.version) e)
-    not_well false w = refl
+bad_counts s e = same_test (well_formed s) false (λ w. let c = clauses s w in absurd (clash (and_true _ _ c.counts c.version) e)) (λ f. grind arith)
 
 -- ---- all objects
 
@@ -238,25 +197,17 @@ module _ (s : State) (counts : counts_fit s ≡ true) (version : version_fits s 
     pub waits : waits_fit (marks_joined s) ≡ true
 
   tested : each ≡ true → Tested
-  tested t =
-      let t8 = and_left _ (waits_fit (marks_joined s)) t in
-      let t7 = and_left _ (processors_fit s) t8 in
-      let t6 = and_left _ (every most_objects well) t7 in
-      let t5 = and_left _ (subset (union s.unlocked s.sleeping) s.active) t6 in
-      let t4 = and_left _ (subset s.active (up_to s.counts.jobs)) t5 in
-      let t3 = and_left _ (subset seen.held s.active) t4 in
-      let t2 = and_left _ (subset seen.declared (up_to s.counts.jobs)) t3 in
-      record {
-        in_order = and_left _ _ t2;
-        none_outside = and_right (is_empty seen.wrong) _ t2;
-        declared = and_right _ (subset seen.declared (up_to s.counts.jobs)) t3;
-        held = and_right _ (subset seen.held s.active) t4;
-        active = and_right _ (subset s.active (up_to s.counts.jobs)) t5;
-        marks = and_right _ (subset (union s.unlocked s.sleeping) s.active) t6;
-        certified = and_right _ (every most_objects well) t7;
-        processors = and_right _ (processors_fit s) t8;
-        waits = and_right _ (waits_fit (marks_joined s)) t;
-      }
+  tested t = record {
+    in_order = grind arith;
+    none_outside = grind arith;
+    declared = grind arith;
+    held = grind arith;
+    active = grind arith;
+    marks = grind arith;
+    certified = grind arith;
+    processors = grind arith;
+    waits = grind arith;
+  }
 
   -- ---- the test passes, so each object fits
 
@@ -313,22 +264,11 @@ module _ (s : State) (counts : counts_fit s ≡ true) (version : version_fits s 
     none_outside : (o : ℕ) → 1 ≤ o → s.counts.objects < o → o ≤ most_objects → empty o ≡ true
     none_outside o low a b =
         let F = fits o low b in
-        let rights : is_empty (declared_any s o) ≡ true = ap (λ (x : Bool). x || is_empty (declared_any s o)) (sym beyond) ∙ F.declaration in
-        let each = sym (empty_union (declared s read o) (declared s write o)) ∙ rights in
+        let beyond : is_object s o ≡ false = grind (arith, nat_tests) in
+        let rights : is_empty (declared_any s o) ≡ true = grind (arith, F.declaration) in
         let reading = subset-le (holders s read o) (declared s read o) (and_left _ _ F.right) in
         let writing = subset-le (holders s write o) (declared s write o) (and_right (subset (holders s read o) (declared s read o)) _ F.right) in
-        let no_reader : holders s read o ≡ 0 = omega (arith, eqb-true (declared s read o) 0 (and_left _ _ each)) in
-        let no_writer : holders s write o ≡ 0 = omega (arith, eqb-true (declared s write o) 0 (and_right (is_empty (declared s read o)) _ each)) in
-        empty_union (declared_any s o) (holders_any s o)
-        ∙ and_true _ _ rights
-        (empty_union (holders s read o) (holders s write o) ∙ and_true _ _ (eq-eqb (holders s read o) 0 no_reader) (eq-eqb (holders s write o) 0 no_writer))
-      where
-        beyond : is_object s o ≡ false
-        beyond = not_inside (is_object s o) refl
-          where
-            not_inside : (x : Bool) → is_object s o ≡ x → x ≡ false
-            not_inside true e = absurd (omega (arith, between_true 1 s.counts.objects o e))
-            not_inside false e = refl
+        grind (arith, nat_tests, empty_union (declared_any s o) (holders_any s o), empty_union (declared s read o) (declared s write o), empty_union (holders s read o) (holders s write o))
 
     in_order_seen : is_empty seen.wrong ≡ true
     in_order_seen =

@@ -10,7 +10,7 @@ use lib.ListN.{get_or}
 use lib.Dec.{eqb}
 use borrow.Author.Tests.{eqb-true, eq-eqb, ne_eqb}
 use Rattle.std.specs.Prelude.{if◌then◌else◌}
-use Rattle.basics.specs.Choice.{between, clash}
+use Rattle.basics.specs.Choice.{between}
 use Rattle.basics.specs.Arrays.{at, at_index, at_next}
 use Rattle.basics.specs.Loops.{every, every-at, every_true, every_same, every-and}
 use Rattle.state.specs.declared.State.{State}
@@ -28,17 +28,10 @@ Asks asks_certify right same written certified =
     right && not (if asks_certify then written && certified else (same || written)) && (not asks_certify || written)
 
 certify_asks : (right same written certified : Bool) → right && written && not certified ≡ Asks true right same written certified
-certify_asks false same written certified = refl
-certify_asks true same true true = refl
-certify_asks true same true false = refl
-certify_asks true same false certified = refl
+certify_asks right same written certified = grind arith
 
 lock_asks : (right same written certified : Bool) → right && not (same || written) ≡ Asks false right same written certified
-lock_asks right same written certified = go (right && not (same || written))
-  where
-    go : (b : Bool) → b ≡ b && true
-    go true = refl
-    go false = refl
+lock_asks right same written certified = grind arith
 
 module _ (m r mr mw rd wr : ℕ) (certified : Bool) where
   pub may_certify : (right written : Bool) → m ≡ certify → right ≡ member (of_mode m mr mw) r → written ≡ member wr r
@@ -70,8 +63,7 @@ may_await_is s m r o h e =
     ∙ ap (λ (b : Bool). b && is_active s r && not (has_unlocked s r) && may_lock s m r o && not (holds_already s m r o) && holds_before s m r o) (sym e)
   where
     four : (a b c d : Bool) → a && (b && c && d) ≡ a && b && c && d
-    four true b c d = refl
-    four false b c d = refl
+    four a b c d = grind arith
 
 pub wait_none : (s : State) (r : ℕ) → request_of s r ≡ 0 → wait_fits s r ≡ true
 wait_none s r e = simp (eq-eqb (request_of s r) 0 e)
@@ -90,14 +82,6 @@ none_wait s n from e =
     every_true n (λ j. wait_fits s (from + j)) (λ j a b.
     wait_none s (from + j) (eqb-true (request_of s (from + j)) 0 (every-at n (λ j. eqb (request_of s (from + j)) 0) j e a b)))
 
--- some of n, from an index on, fail
-pub part_fails : (m from n : ℕ) (p : ℕ → Bool) → from + n ≤ m → every n (λ k. p (from + k)) ≡ false → every m p ≡ false
-part_fails m from n p h fails = go (every m p) refl
-  where
-    go : (b : Bool) → every m p ≡ b → b ≡ false
-    go true e = absurd (clash (every_true n (λ k. p (from + k)) (λ k a b. every-at m p (from + k) e (omega arith) (omega arith))) fails)
-    go false e = refl
-
 -- ---- those that have unlocked and those that sleep, together: a waiting job is none of them
 
 abbrev pub marks_joined : State → State
@@ -107,19 +91,8 @@ pub waits_joined : (s : State) → waits_fit (marks_joined s) ≡ waits_fit s &&
 unfolding waits_fit
 waits_joined s = every_same most_jobs (wait_fits (marks_joined s)) (λ r. wait_fits s r && waits_awake s r) (λ r a b. each r) ∙ every-and most_jobs (wait_fits s) (waits_awake s)
   where
-    and_no : (b : Bool) → b && false ≡ false
-    and_no true = refl
-    and_no false = refl
-
-    and_yes : (b : Bool) → b ≡ b && true
-    and_yes true = refl
-    and_yes false = refl
-
     asks : (front unlocked sleeping a b c : Bool) → front && not (unlocked || sleeping) && a && b && c ≡ front && not unlocked && a && b && c && not sleeping
-    asks false unlocked sleeping a b c = refl
-    asks true true sleeping a b c = refl
-    asks true false true a b c = sym (and_no (a && b && c))
-    asks true false false a b c = and_yes (a && b && c)
+    asks front unlocked sleeping a b c = grind arith
 
     each : (r : ℕ) → wait_fits (marks_joined s) r ≡ wait_fits s r && waits_awake s r
     each r = go (is_waiting s r)

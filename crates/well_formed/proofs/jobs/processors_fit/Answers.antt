@@ -7,8 +7,7 @@ use mathlib.Core.Bool.{Bool, ◌&&◌}
 use native.Mathlib.Numerals.{add-one}
 use native.Mathlib.Omega.{arith}
 use lib.Dec.{ltb}
-use borrow.Author.Tests.{ltb-true, lt-ltb}
-use Rattle.basics.specs.Choice.{same_test, and_true, and_left, and_right}
+use Rattle.std.proofs.lemmas.Bool.Decides.{nat_tests}
 use Rattle.basics.specs.Loops.{every}
 use Rattle.basics.specs.Arrays.{at}
 use Rattle.state.specs.Lent.{state_in}
@@ -17,10 +16,7 @@ use Rattle.well_formed.proofs.jobs.processors_fit.Goals as goal
 
 -- the larger of two numbers is below a bound if and only if both are
 both_below : (a b n : ℕ) → ltb (max a b) n ≡ ltb a n && ltb b n
-both_below a b n =
-    same_test (ltb (max a b) n) (ltb a n && ltb b n)
-    (λ t. and_true (ltb a n) (ltb b n) (lt-ltb a n (omega (arith, ltb-true (max a b) n t))) (lt-ltb b n (omega (arith, ltb-true (max a b) n t))))
-    (λ t. lt-ltb (max a b) n (omega (arith, ltb-true a n (and_left (ltb a n) (ltb b n) t), ltb-true b n (and_right (ltb a n) (ltb b n) t))))
+both_below a b n = grind (arith, nat_tests)
 
 pub loop-i-preserved : goal.loop-i-preserved
 unfolding every

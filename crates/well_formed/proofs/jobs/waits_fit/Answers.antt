@@ -11,7 +11,8 @@ use Rattle.state.specs.State.{most_jobs}
 use Rattle.state.specs.Lent.{state_in}
 use Rattle.state.specs.WellFormed.{wait_fits, waits_fit}
 use Rattle.well_formed.specs.Survey.{with_marked}
-use Rattle.well_formed.proofs.WaitLaws.{none_wait, part_fails}
+use Rattle.well_formed.proofs.LoopLaws.{part_fails}
+use Rattle.well_formed.proofs.WaitLaws.{none_wait}
 use Rattle.well_formed.proofs.jobs.waits_fit.Goals as goal
 
 pub returns-then-none_waits : goal.returns-then-none_waits

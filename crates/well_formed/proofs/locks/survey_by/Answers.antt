@@ -16,7 +16,8 @@ use Rattle.ranks.specs.UnionLaws.{unions_both}
 use Rattle.state.specs.State.{holders_any}
 use Rattle.state.specs.Lent.{state_in}
 use Rattle.well_formed.specs.Survey.{block_size, blocks, object_in_order}
-use Rattle.well_formed.proofs.SurveyLaws.{held_more, order_more, unlocked_more}
+use Rattle.well_formed.proofs.LoopLaws.{block_more}
+use Rattle.well_formed.proofs.SurveyLaws.{held_more, unlocked_more}
 use Rattle.well_formed.proofs.locks.survey_by.Goals as goal
 use Rattle.well_formed.proofs.locks.survey_by.Goals.{then-not-is_empty, else-not-is_empty}
 
@@ -25,20 +26,20 @@ loop-block-preserved g c =
     let s = state_in c.args.parts.now in
     let none = not (eqb g.row.ALONE 0) in
     let i = c.loop-block.block * block_size in
+    let m = (c.loop-block.block + 1) * block_size in
+    let end : i + block_size ≡ m = omega arith in
     let inv = c.loop-block.invariant in
-    let next : i + block_size ≡ (c.loop-block.block + 1) * block_size = omega arith in
-    let held = ap (λ (n : ℕ). unions n (holders_any s)) next in
-    let order = ap (λ (n : ℕ). every n (object_in_order s none)) next in
     let locks = c.union-locks.ensures ∙ ap₂ union c.union_of-in-loop-block.ensures c.union_of-in-loop-block-2.ensures in
-    let more = ap₂ union inv.0 locks ∙ held_more s none i ∙ held in
+    let more = ap₂ union inv.0 locks ∙ held_more s none i m end in
     elim c.if-not-is_empty.branch [
       | then-not-is_empty w ↦ (
         w.held-is ∙ w.union-held.ensures ∙ more,
-        ap is_empty (w.wrong-is ∙ w.union-wrong.ensures) ∙ order_more s none i c.loop-block.wrong w.block_wrong.result inv.1 w.block_wrong.ensures ∙ order,
+        ap is_empty (w.wrong-is ∙ w.union-wrong.ensures)
+            ∙ block_more i block_size m c.loop-block.wrong w.block_wrong.result (object_in_order s none) end inv.1 w.block_wrong.ensures,
       )
       | else-not-is_empty w ↦ (let free = eqb-true c.union-locks.result 0 (sym c.is_empty.ensures ∙ w.if-not-is_empty.false) in (
         w.held-is ∙ sym (or_zero_r c.loop-block.held) ∙ ap (union c.loop-block.held) (sym free) ∙ more,
-        ap is_empty w.wrong-is ∙ unlocked_more s none i c.loop-block.wrong inv.1 (sym locks ∙ free) ∙ order,
+        ap is_empty w.wrong-is ∙ unlocked_more s none i m end c.loop-block.wrong inv.1 (sym locks ∙ free),
       ))
     ]
 

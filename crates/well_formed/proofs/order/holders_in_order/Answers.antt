@@ -1,10 +1,10 @@
 -- `well_formed::holders_in_order` meets its contract. One holder is in order with himself. Else the loop's invariant: the set is empty if and only if the
 -- first objects, in whole blocks, are in order; a turn joins a block's readers and writers that are not.
 -- Assumes nothing.
-use Prim.Native.Nat.{ℕ, ◌+◌, ◌*◌}
-use mathlib.Core.Path.{◌≡◌, sym, ap, ◌∙◌}
+use Prim.Native.Nat.{◌+◌, ◌*◌}
+use mathlib.Core.Path.{sym, ap, ◌∙◌}
 use native.Mathlib.Omega.{arith}
-use Rattle.basics.specs.Loops.{every, every_true}
+use Rattle.basics.specs.Loops.{every_true}
 use Rattle.ranks.specs.Ranks.{is_empty, union}
 use Rattle.state.specs.Lent.{state_in}
 use Rattle.well_formed.specs.Survey.{block_size, in_blocks, readers_ordered, writers_ordered, object_ordered}
@@ -22,8 +22,6 @@ loop-block-preserved c =
     let s = state_in c.args.parts.now in
     let held = c.args.held in
     let i = c.loop-block.block * block_size in
-    let next : i + block_size ≡ (c.loop-block.block + 1) * block_size = omega arith in
     ap is_empty (c.union-wrong.ensures ∙ ap (union c.loop-block.wrong) c.union.ensures)
-    ∙ ordered_more i c.loop-block.wrong c.locks_wrong-reading.result c.locks_wrong-writing.result (readers_ordered held s) (writers_ordered held s) c.loop-block.invariant
-    c.locks_wrong-reading.ensures c.locks_wrong-writing.ensures
-    ∙ ap (λ (n : ℕ). every n (object_ordered held s)) next
+    ∙ ordered_more i ((c.loop-block.block + 1) * block_size) c.loop-block.wrong c.locks_wrong-reading.result c.locks_wrong-writing.result
+    (readers_ordered held s) (writers_ordered held s) (omega arith) c.loop-block.invariant c.locks_wrong-reading.ensures c.locks_wrong-writing.ensures
