@@ -1,5 +1,5 @@
 // Bytes and decimal numbers, laid into a buffer one behind the other: each function answers the index behind what it laid.
-#![tactic(auto)]
+#![tactic(auto, using(crate::proofs::Laying::laying))]
 
 ghost use Rattle.std.specs.Prelude.{◌≡◌, [], ◌∷◌, ◌+◌, ◌≤◌, ◌<◌, length};
 ghost use Rattle.decimals.specs.Decimal.{decimal, three_digits};
@@ -13,6 +13,16 @@ pub fn lay_byte(buf: &mut [u8], at: usize, byte: u8) -> usize
 {
     buf[at] = byte;
     at + 1
+}
+
+// A text laid from the index on.
+pub fn lay_text(buf: &mut [u8], at: usize, text: &[u8]) -> usize
+    requires { at + length text.now ≤ length buf.old }
+    ensures { Laid buf.old buf.new at result (length text.now) text.now }
+{
+    let end = at + text.len();
+    buf[at..end].copy_from_slice(text);
+    end
 }
 
 // Three bytes laid from the index on.
@@ -57,14 +67,18 @@ pub fn lay_aligned(buf: &mut [u8], at: usize, number: u8) -> usize
 {
     let hundreds = digit_or_space(number / 100);
     let tens = digit_or_space(number / 10);
-    lay_three(buf, at, hundreds, tens, 48 + number % 10)
+    lay_three(buf, at, hundreds, tens, b'0' + number % 10)
 }
 
 // The last digit of the number, and a space of 0: a digit that may be a leading zero.
 fn digit_or_space(number: u8) -> u8
     ensures { result ≡ digit_or_space number }
 {
-    if number == 0 { b' ' } else { 48 + number % 10 }
+    if number == 0 {
+        b' '
+    } else {
+        b'0' + number % 10
+    }
 }
 
 // A number's digits, where just these have room.
@@ -85,11 +99,11 @@ fn lay_below_thousand(buf: &mut [u8], at: usize, number: u16) -> usize
     ensures { Laid buf.old buf.new at result (length (decimal number)) (decimal number) }
 {
     if number < 10 {
-        return lay_byte(buf, at, 48 + number as u8);
+        return lay_byte(buf, at, b'0' + number as u8);
     }
     if number < 100 {
-        let end = lay_byte(buf, at, 48 + (number / 10) as u8);
-        return lay_byte(buf, end, 48 + (number % 10) as u8);
+        let end = lay_byte(buf, at, b'0' + (number / 10) as u8);
+        return lay_byte(buf, end, b'0' + (number % 10) as u8);
     }
     lay_three_digits(buf, at, number)
 }
@@ -102,8 +116,8 @@ fn lay_three_digits(buf: &mut [u8], at: usize, number: u16) -> usize
     lay_three(
         buf,
         at,
-        48 + (number / 100) as u8,
-        48 + (number / 10 % 10) as u8,
-        48 + (number % 10) as u8,
+        b'0' + (number / 100) as u8,
+        b'0' + (number / 10 % 10) as u8,
+        b'0' + (number % 10) as u8,
     )
 }

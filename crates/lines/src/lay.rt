@@ -6,7 +6,7 @@ ghost use Rattle.lines.specs.Lines.{kind_letter, answer_fields, header_line, eve
 ghost use Rattle.decimals.specs.Laid.{Laid};
 ghost use Rattle.events.specs.Answers.{paper};
 
-use decimals::{lay_byte, lay_byte_number, lay_letter, lay_number, lay_three};
+use decimals::{lay_byte, lay_byte_number, lay_letter, lay_number, lay_text};
 use events::Answer;
 use state::Counts;
 
@@ -106,7 +106,7 @@ pub fn lay_header(buf: &mut [u8], counts: Counts) -> usize
     requires { 20 ≤ length buf.old }
     ensures { Laid buf.old buf.new 0 result 20 (header_line counts) }
 {
-    let mark = lay_three(buf, 0, b'J', b'O', b'B');
+    let mark = lay_text(buf, 0, b"JOB");
     let version = lay_field(buf, mark, counts.version);
     let end = lay_field(buf, version, counts.jobs);
     let next = lay_field(buf, end, counts.processors);
@@ -118,9 +118,8 @@ pub fn lay_end(buf: &mut [u8], events: u64) -> usize
     requires { 25 ≤ length buf.old }
     ensures { Laid buf.old buf.new 0 result 25 (end_line events) }
 {
-    let word = lay_three(buf, 0, b'e', b'n', b'd');
-    let space = lay_byte(buf, word, b' ');
-    let end = lay_number(buf, space, events);
+    let word = lay_text(buf, 0, b"end ");
+    let end = lay_number(buf, word, events);
     lay_byte(buf, end, b'\n')
 }
 
@@ -129,8 +128,7 @@ pub fn lay_short(buf: &mut [u8]) -> usize
     requires { 6 ≤ length buf.old }
     ensures { Laid buf.old buf.new 0 result 6 short_line }
 {
-    let middle = lay_three(buf, 0, b's', b'h', b'o');
-    lay_three(buf, middle, b'r', b't', b'\n')
+    lay_text(buf, 0, b"short\n")
 }
 
 // The line of a refused table.

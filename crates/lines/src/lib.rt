@@ -1,5 +1,5 @@
 // The lines of the bench record, laid one at a time at the front of a lent buffer. Each function answers its line's length.
-#![tactic(auto)]
+#![tactic(auto, using(crate::specs::LineLaws::line_laid))]
 
 ghost use Rattle.lines.specs.Lines.{header_line, event_line, end_line, short_line, refused_line, LineLaid};
 

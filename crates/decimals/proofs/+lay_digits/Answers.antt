@@ -5,16 +5,6 @@ use Rattle.decimals.specs.Decimal.{decimal_thousands, decimal_thousands_length}
 use Rattle.decimals.specs.Laid.{laid_then, laid_is}
 use Rattle.decimals.proofs.+lay_digits.Goals as goal
 
-pub lay_digits-end-requires : goal.lay_digits-end-requires
-lay_digits-end-requires t c =
-    let n = c.args.number in
-    (omega arith, omega (arith, decimal_thousands_length n (omega arith)))
-
-pub lay_three_digits-requires : goal.lay_three_digits-requires
-lay_three_digits-requires t c =
-    let n = c.args.number in
-    (omega arith, omega (arith, decimal_thousands_length n (omega arith)))
-
 pub returns : goal.returns
 returns t c =
     let n = c.args.number in

@@ -6,8 +6,4 @@ use Rattle.lines.proofs.lay.lay_end.Goals as goal
 
 pub returns : goal.returns
 unfolding end_line
-returns c =
-    laid_then c.lay_three-word.ensures
-    (laid_then c.lay_byte-space.ensures
-    (laid_then c.lay_number-end.ensures
-    c.lay_byte.ensures))
+returns c = laid_then c.lay_text-word.ensures (laid_then c.lay_number-end.ensures c.lay_byte.ensures)

@@ -7,7 +7,7 @@ use Rattle.lines.proofs.lay.lay_header.Goals as goal
 pub returns : goal.returns
 unfolding header_line
 returns c =
-    laid_then c.lay_three-mark.ensures
+    laid_then c.lay_text-mark.ensures
     (laid_then c.lay_field-version.ensures
     (laid_then c.lay_field-end.ensures
     (laid_then c.lay_field-next.ensures
