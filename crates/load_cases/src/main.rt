@@ -85,7 +85,7 @@ fn say_same<R: Files<File = File>>(rt: &R, table: &TableBuffer) {
     let read = table::read_table(table);
     let state = read.map_or_else(|_| zero_state(), |read| read.state);
     let mut whole = [0; 150000];
-    generator::make_events(state, 7, 50000, &mut whole);
+    let _ = generator::make_events(state, 7, 50000, &mut whole);
     let mut written = [0; 150001];
     let file = open(rt, b"written");
     let length = io::read_full(file.as_raw_fd(), &mut written);
