@@ -30,9 +30,6 @@ module _ (s : State) (word from : ℕ) where
     pub part : (p : ℕ) → member rest p ≡ true → member word p ≡ true
     pub seen : (p : ℕ) → member word p ≡ true → member rest p ≡ false → well s (from + p) ≡ true
 
-  pub none_seen : word < 2 ^ 64 → Seen word
-  none_seen h = record { small = h; part = λ p m. m; seen = λ p m n. absurd (clash m n) }
-
   pub one_seen : (rest f : ℕ) → Seen rest → well s (from + f) ≡ true → Seen (without rest f)
   one_seen rest f S w = record {
     small = without-lt 64 rest f S.small;

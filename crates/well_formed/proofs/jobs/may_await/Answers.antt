@@ -1,14 +1,13 @@
 -- `well_formed::may_await` meets its contract: where the mode and the object are in range, the object's sets are those at its index.
 -- Assumes nothing.
 use Rattle.well_formed.proofs.WaitLaws.{may_await_is}
-use Prim.Native.Nat.{◌+◌, ◌-◌}
-use mathlib.Core.Bool.{Bool, ◌&&◌, not}
+use Prim.Native.Nat.{◌+◌}
+use mathlib.Core.Bool.{◌&&◌}
 use Rattle.basics.specs.Choice.{between, and_right, between_true}
-use lib.ListN.{get_or}
 use Rattle.state.specs.State.{mode_of_request, object_of_request}
 use Rattle.state.specs.Lent.{state_in}
-use Rattle.well_formed.specs.Survey.{may_ask, with_marked}
-use mathlib.Core.Path.{sym, ap, ap₂, ◌∙◌}
+use Rattle.well_formed.specs.Survey.{with_marked}
+use mathlib.Core.Path.{sym, ap₂, ◌∙◌}
 use Rattle.well_formed.proofs.jobs.may_await.Goals as goal
 
 pub returns : goal.returns
@@ -19,7 +18,5 @@ returns c =
     let object = object_of_request c.args.request in
     let tests = ap₂ ◌&&◌ (sym c.within.ensures) (sym c.within-2.ensures) ∙ c.if-not-within.false in
     let in_table = between_true 1 p.counts.objects object (and_right (between 1 (p.counts.version + 1) mode) _ tests) in
-    let asks = c.may_ask.ensures
-    ∙ ap (may_ask mode c.args.rank (get_or s.may_read (object - 1) 0) (get_or s.may_write (object - 1) 0) (get_or s.readers (object - 1) 0) (get_or s.writers (object - 1) 0))
-    c.is_marked.ensures in
-    ap₂ ◌&&◌ (ap₂ (λ (x y : Bool). x && not y) c.contains.ensures c.contains-2.ensures) asks ∙ may_await_is s mode c.args.rank object in_table.0 tests
+    let whole = may_await_is s mode c.args.rank object in_table.0 tests in
+    cc

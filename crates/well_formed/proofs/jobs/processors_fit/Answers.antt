@@ -3,7 +3,7 @@
 -- Assumes nothing.
 use Prim.Native.Nat.{ℕ, suc, max}
 use mathlib.Core.Path.{◌≡◌, ap, ◌∙◌}
-use mathlib.Core.Bool.{Bool, ◌&&◌}
+use mathlib.Core.Bool.{◌&&◌}
 use native.Mathlib.Numerals.{add-one}
 use native.Mathlib.Omega.{arith}
 use lib.Dec.{ltb}
@@ -23,7 +23,7 @@ unfolding every
 loop-i-preserved c =
     let n = c.args.parts.now.counts.processors in
     let next = at c.args.parts.now.processor_of.now (suc c.loop-i.i) in
-    rw add-one (ap (λ (k : ℕ). ltb k n) c.max-last.ensures ∙ both_below c.loop-i.last next n ∙ ap (λ (b : Bool). b && ltb next n) c.loop-i.invariant)
+    rw add-one (cc (both_below c.loop-i.last next n))
 
 pub returns : goal.returns
 unfolding processors_fit

@@ -2,8 +2,8 @@
 -- a turn joins what is wrong with one more.
 -- Assumes nothing.
 use Prim.Native.Nat.{suc, ◌+◌}
-use mathlib.Core.Path.{◌≡◌, ap, ap₂, ◌∙◌}
-use mathlib.Core.Bool.{not, ◌&&◌}
+use mathlib.Core.Path.{◌≡◌, ap}
+use mathlib.Core.Bool.{not}
 use native.Mathlib.Omega.{arith}
 use lib.Dec.{eqb}
 use Rattle.ranks.specs.Ranks.{is_empty}
@@ -18,5 +18,5 @@ loop-k-preserved g c =
     let order = object_in_order (state_in c.args.parts.now) (not (eqb g.row.ALONE 0)) in
     let i = c.loop-k.k in
     let next : suc (c.args.from + i) ≡ c.args.from + (i + 1) = omega arith in
-    let object = ap is_empty c.union.ensures ∙ empty_union c.without_right-rights.result c.apart_wrong.result ∙ ap₂ ◌&&◌ c.without_right-rights.ensures c.apart_wrong.ensures in
-    ap is_empty c.union-wrong.ensures ∙ one_more i c.loop-k.wrong c.union.result (λ j. order (c.args.from + j)) c.loop-k.invariant (object ∙ ap order next)
+    let object : is_empty c.union.result ≡ order (c.args.from + (i + 1)) = cc (empty_union c.without_right-rights.result c.apart_wrong.result, ap order next) in
+    cc (one_more i c.loop-k.wrong c.union.result (λ j. order (c.args.from + j)) c.loop-k.invariant object)

@@ -1,8 +1,6 @@
 -- `well_formed::certified_well` meets its contract: no object is certified, or the version and both words are tested.
 -- Assumes nothing.
-use mathlib.Core.Path.{sym, ap₂, ◌∙◌}
-use mathlib.Core.Bool.{Bool, ◌&&◌}
-use lib.Dec.{eqb}
+use mathlib.Core.Path.{sym, ◌∙◌}
 use Rattle.state.specs.Lent.{state_in}
 use Rattle.well_formed.proofs.MarkLaws.{none_marked, both}
 use Rattle.well_formed.proofs.marks.certified_well.Goals as goal
@@ -12,6 +10,5 @@ returns-then-both_empty c = none_marked (state_in c.args.parts.now) (sym c.both_
 
 pub returns : goal.returns
 returns c =
-    let s = state_in c.args.parts.now in
-    ap₂ (λ (x y : Bool). eqb s.counts.version 2 && x && y) c.word_fits.ensures c.word_fits-2.ensures
-    ∙ both s (sym c.both_empty.ensures.0 ∙ c.if-both_empty.false) c.both_empty.ensures.1 c.both_empty.ensures.2
+    let tests = both (state_in c.args.parts.now) (sym c.both_empty.ensures.0 ∙ c.if-both_empty.false) c.both_empty.ensures.1 c.both_empty.ensures.2 in
+    cc

@@ -5,7 +5,7 @@ use Prim.Native.Nat.{◌+◌, ◌*◌}
 use mathlib.Core.Path.{sym, ap, ◌∙◌}
 use native.Mathlib.Omega.{arith}
 use Rattle.basics.specs.Loops.{every_true}
-use Rattle.ranks.specs.Ranks.{is_empty, union}
+use Rattle.ranks.specs.Ranks.{is_empty}
 use Rattle.state.specs.Lent.{state_in}
 use Rattle.well_formed.specs.Survey.{block_size, in_blocks, readers_ordered, writers_ordered, object_ordered}
 use Rattle.well_formed.proofs.OrderLaws.{one_holder, ordered_more}
@@ -22,6 +22,5 @@ loop-block-preserved c =
     let s = state_in c.args.parts.now in
     let held = c.args.held in
     let i = c.loop-block.block * block_size in
-    ap is_empty (c.union-wrong.ensures ∙ ap (union c.loop-block.wrong) c.union.ensures)
-    ∙ ordered_more i ((c.loop-block.block + 1) * block_size) c.loop-block.wrong c.locks_wrong-reading.result c.locks_wrong-writing.result
-    (readers_ordered held s) (writers_ordered held s) (omega arith) c.loop-block.invariant c.locks_wrong-reading.ensures c.locks_wrong-writing.ensures
+    cc (ordered_more i ((c.loop-block.block + 1) * block_size) c.loop-block.wrong c.locks_wrong-reading.result c.locks_wrong-writing.result
+    (readers_ordered held s) (writers_ordered held s) (omega arith) c.loop-block.invariant c.locks_wrong-reading.ensures c.locks_wrong-writing.ensures)

@@ -3,13 +3,13 @@
 -- Assumes nothing.
 use Prim.Native.Nat.{ℕ, suc, ◌+◌}
 use mathlib.Core.Path.{◌≡◌, sym, ap, ap₂, ◌∙◌}
-use mathlib.Core.Bool.{not}
+use mathlib.Core.Bool.{Bool, not}
 use native.Mathlib.Omega.{arith}
 use lib.Dec.{eqb}
 use Rattle.basics.specs.Arrays.{at}
-use Rattle.ranks.specs.Ranks.{is_empty, common, but_first}
+use Rattle.ranks.specs.Ranks.{is_empty, common}
 use Rattle.state.specs.Lent.{state_in}
-use Rattle.well_formed.specs.Survey.{block_size, reached, only_first, weighs_by}
+use Rattle.well_formed.specs.Survey.{block_size, only_first, weighs_by}
 use Rattle.well_formed.proofs.LoopLaws.{one_more}
 use Rattle.well_formed.proofs.OrderLaws.{first_alone_all}
 use Rattle.well_formed.proofs.order.locks_wrong.Goals as goal
@@ -28,8 +28,6 @@ loop-k-preserved g c =
     let i = c.loop-k.k in
     let here : a.from + i + 1 ≡ a.from + (i + 1) = omega arith in
     let next : suc (a.from + i) ≡ a.from + (i + 1) = omega arith in
-    let later = c.reached_later-later.ensures ∙ ap (λ (d : ℕ). but_first (reached a.held d)) c.weighs_by.ensures in
-    let object = ap is_empty (c.common-in-loop-k.ensures ∙ ap (common (at a.locks.now (suc (a.from + i)))) later)
-    ∙ ap₂ (λ (u v : ℕ). only_first a.held (weighs u) (at a.locks.now v)) here next in
-    ap is_empty c.union-wrong.ensures
-    ∙ one_more i c.loop-k.wrong c.common-in-loop-k.result (λ j. only_first a.held (weighs (a.from + j)) (at a.locks.now (a.from + j))) c.loop-k.invariant object
+    let ordered : ℕ → Bool = λ j. only_first a.held (weighs (a.from + j)) (at a.locks.now (a.from + j)) in
+    let object : is_empty c.common-in-loop-k.result ≡ ordered (i + 1) = cc (ap (at a.locks.now) next) in
+    cc (one_more i c.loop-k.wrong c.common-in-loop-k.result ordered c.loop-k.invariant object)
