@@ -125,8 +125,8 @@ pub fn lay_lines(buf: &mut [u8], parts: &Parts, named: &JobLocks, running: &Proc
         parts.now.active parts.now.sleeping parts.now.request.now) buf.old }
 {
     let mut end = 0;
-    for before in 0..parts.counts.jobs {
-        let rank = before + 1;
+    for i in 0..usize::from(parts.counts.jobs) {
+        let rank = (i + 1) as u8;
         if contains(parts.active, rank) {
             let start = end;
             end += 21;
