@@ -21,7 +21,7 @@ fn part_start(bytes: &[u8], rank: u8) -> usize
 
 // Where one job's entries start within the table bytes and how many bytes they have, in the lent cells. Answers 0, or the refusal's number, 1 to 7 or 10,
 // and leaves the cells as they were.
-#[tactic(auto, using(table::specs::JobPart::job_accepted, state::specs::RefusalNumbers::number_positive))]
+#[tactic(auto, using(table::specs::JobPart::job_accepted))]
 #[unsafe(no_mangle)]
 pub extern "C" fn vongselik_parts_job_entries(
     bytes: &[u8],
