@@ -19,23 +19,21 @@ unfoldable pub smaller_entries : List ℕ → ℕ → ℕ → ℕ
 smaller_entries b rank zero = 0
 smaller_entries b rank (suc k) = smaller_entries b rank k + one_if (ltb (entry_rank b k) rank)
 
-unfoldable pub part_start : List ℕ → ℕ → ℕ
+abbrev pub part_start : List ℕ → ℕ → ℕ
 part_start b rank = entry_start b (smaller_entries b rank (entry_count b))
 
 -- what the two lent cells hold afterwards; a refusal leaves what they held
-unfoldable pub start_cell : List ℕ → ℕ → ℕ → ℕ
+abbrev pub start_cell : List ℕ → ℕ → ℕ → ℕ
 start_cell b rank old = if eqb (job_entries_refusal b rank) 0 then part_start b rank else old
 
-unfoldable pub length_cell : List ℕ → ℕ → ℕ → ℕ
+abbrev pub length_cell : List ℕ → ℕ → ℕ → ℕ
 length_cell b rank old = if eqb (job_entries_refusal b rank) 0 then length (job_entries b rank) else old
 
 module _ (b : List ℕ) (rank start size : ℕ) where
   pub cells_kept : (job_entries_refusal b rank ≡ 0 → ⊥) → (start_cell b rank start ≡ start) × (length_cell b rank size ≡ size)
-  unfolding start_cell length_cell
   cells_kept d = (simp (ne_eqb (job_entries_refusal b rank) 0 d), simp (ne_eqb (job_entries_refusal b rank) 0 d))
 
   pub cells_filled : job_entries_refusal b rank ≡ 0 → (start_cell b rank start ≡ part_start b rank) × (length_cell b rank size ≡ length (job_entries b rank))
-  unfolding start_cell length_cell
   cells_filled e = (simp (eq-eqb (job_entries_refusal b rank) 0 e), simp (eq-eqb (job_entries_refusal b rank) 0 e))
 
 -- ---- how many are of smaller ranks
@@ -117,7 +115,7 @@ module _ (b : List ℕ) (rank : ℕ) (accepted_rank : job_entries_refusal b rank
 
   -- the bytes that the start and the length mark are the part that `table::job_entries` hands back
   pub part_there : take (length (job_entries b rank)) (drop (part_start b rank) b) ≡ job_entries b rank
-  unfolding job_entries part_start
+  unfolding job_entries
   part_there =
       let whole : job_entries b rank ≡ part b first next = simp (eq-eqb (job_entries_refusal b rank) 0 accepted_rank) (entries_together b bytes_accepted rank first next from to) in
       let room : 3 * (next - first) ≤ length (drop (entry_start b first) b) =

@@ -14,17 +14,15 @@ number_of (Err refusal) = number refusal
 
 -- ---- what a table read into a lent state leaves: the state and the used count of the table, or what was there before
 
-unfoldable pub state_read : TableRead → State → State
+abbrev pub state_read : TableRead → State → State
 state_read t old = if eqb t.refusal 0 then t.state else old
 
-unfoldable pub used_read : TableRead → ℕ → ℕ
+abbrev pub used_read : TableRead → ℕ → ℕ
 used_read t old = if eqb t.refusal 0 then t.used else old
 
 module _ (t : TableRead) (old : State) (n : ℕ) where
   pub read_kept : (t.refusal ≡ 0 → ⊥) → (used_read t n ≡ n) × (state_read t old ≡ old)
-  unfolding state_read used_read
   read_kept d = (simp (ne_eqb t.refusal 0 d), simp (ne_eqb t.refusal 0 d))
 
   pub read_filled : t.refusal ≡ 0 → (used_read t n ≡ t.used) × (state_read t old ≡ t.state)
-  unfolding state_read used_read
   read_filled e = (simp (eq-eqb t.refusal 0 e), simp (eq-eqb t.refusal 0 e))

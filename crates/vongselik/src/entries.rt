@@ -1,7 +1,5 @@
 // One job's entries, as a start and a length within lent table bytes.
-ghost use Rattle.std.specs.Prelude.{◌≡◌, ◌≤◌, ◌<◌, ◌+◌, ◌*◌, length};
-ghost use Rattle.basics.specs.Loops.{one_if};
-ghost use Rattle.table_bytes.specs.Bytes.{word};
+ghost use Rattle.std.specs.Prelude.{◌≡◌};
 ghost use Rattle.table_bytes.specs.Refusals.{table_refusal};
 ghost use Rattle.table.specs.JobEntries.{job_entries_refusal};
 ghost use Rattle.vongselik.specs.Entries.{part_start, start_cell, length_cell};
@@ -9,7 +7,7 @@ ghost use Rattle.vongselik.specs.Entries.{part_start, start_cell, length_cell};
 use table_bytes::{entry_at, entry_count, entry_start};
 
 // Where the rank's entries start in accepted table bytes: behind those of smaller ranks.
-#[tactic(auto, using(table_bytes::specs::AcceptedTable::accepted_table, crate::specs::Entries::smaller_more, crate::specs::Entries::smaller_le), unfolding(crate::specs::Entries::part_start))]
+#[tactic(auto, using(table_bytes::specs::AcceptedTable::accepted_table, crate::specs::Entries::smaller_more, crate::specs::Entries::smaller_le))]
 fn part_start(bytes: &[u8], rank: u8) -> usize
     requires { table_refusal bytes.now ≡ 0 }
     ensures { result ≡ part_start bytes.now rank }
@@ -23,7 +21,7 @@ fn part_start(bytes: &[u8], rank: u8) -> usize
 
 // Where one job's entries start within the table bytes and how many bytes they have, in the lent cells. Answers 0, or the refusal's number, 1 to 7 or 10,
 // and leaves the cells as they were.
-#[tactic(auto, using(table::specs::JobPart::job_accepted, state::specs::RefusalNumbers::number_positive), unfolding(crate::specs::Entries::start_cell, crate::specs::Entries::length_cell))]
+#[tactic(auto, using(table::specs::JobPart::job_accepted))]
 #[unsafe(no_mangle)]
 pub extern "C" fn vongselik_parts_job_entries(
     bytes: &[u8],

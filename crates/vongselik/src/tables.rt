@@ -12,7 +12,6 @@ use state::{Counts, JobProcessors, JobRequests, ObjectMarks, Sets, SetsMut, Stat
 use table_writer::write_table;
 
 // Reads a table into the lent parts of a state, and its length into `used`. Answers 0, or the refusal's number, 1 to 7, and leaves all as it was.
-#[tactic(auto, using(state::specs::RefusalNumbers::number_positive), unfolding(crate::specs::Lending::state_read, crate::specs::Lending::used_read))]
 #[unsafe(no_mangle)]
 pub extern "C" fn vongselik_parts_read_table(
     bytes: &[u8],
