@@ -105,9 +105,8 @@ pub fn running_by(parts: &Parts, named: &JobLocks, awake: RankSet, processor: u8
 {
     let jobs = parts.counts.jobs;
     let mut lowest = NO_KEY;
-    for before in 0..jobs {
-        let i = before as usize;
-        let rank = before + 1;
+    for i in 0..usize::from(jobs) {
+        let rank = (i + 1) as u8;
         let ready = is_ready(
             parts.processor_of[i],
             processor,

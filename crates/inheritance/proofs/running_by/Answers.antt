@@ -11,14 +11,14 @@ use Rattle.inheritance.specs.Inheriting.{ready_by, ready_key_by, running_by}
 use borrow.Author.Rules.{rules}
 use Rattle.inheritance.proofs.running_by.Goals as goal
 
-pub loop-before-init : goal.loop-before-init
+pub loop-i-init : goal.loop-i-init
 unfolding least
-loop-before-init c = (search rules, refl)
+loop-i-init c = (search rules, refl)
 
-pub loop-before-preserved : goal.loop-before-preserved
-loop-before-preserved c =
+pub loop-i-preserved : goal.loop-i-preserved
+loop-i-preserved c =
     let a = c.args in
-    let rank = c.loop-before.before in
+    let rank = c.loop-i.i in
     let ready : c.is_ready-ready.result ≡ ready_by (at a.parts.now.processor_of.now (rank + 1)) a.processor a.awake (at a.parts.now.request.now (rank + 1)) (rank + 1) =
     c.is_ready-ready.ensures
     ∙ ap₂ (λ (own request : ℕ). ready_by own a.processor a.awake request (rank + 1))
@@ -26,7 +26,7 @@ loop-before-preserved c =
     in (
       search rules,
       c.min-lowest.ensures
-          ∙ ap₂ min c.loop-before.invariant.1 (c.ready_key.ensures ∙ ap (λ (b : Bool). ready_key_by a.parts.now.counts.jobs a.named.now b (rank + 1)) ready)
+          ∙ ap₂ min c.loop-i.invariant.1 (c.ready_key.ensures ∙ ap (λ (b : Bool). ready_key_by a.parts.now.counts.jobs a.named.now b (rank + 1)) ready)
           ∙ sym (least_more rank no_key (λ r. ready_key_by a.parts.now.counts.jobs a.named.now (ready_by (at a.parts.now.processor_of.now r) a.processor a.awake (at a.parts.now.request.now r) r) r)),
     )
 
@@ -34,5 +34,5 @@ pub returns : goal.returns
 unfolding running_by
 returns c =
     let a = c.args in
-    let all : c.loop-before.before ≡ a.parts.now.counts.jobs = omega arith in
-    ap (λ (n : ℕ). n % 256) (c.loop-before.invariant.1 ∙ ap (λ (n : ℕ). least n no_key (λ r. ready_key_by a.parts.now.counts.jobs a.named.now (ready_by (at a.parts.now.processor_of.now r) a.processor a.awake (at a.parts.now.request.now r) r) r)) all)
+    let all : c.loop-i.i ≡ a.parts.now.counts.jobs = omega arith in
+    ap (λ (n : ℕ). n % 256) (c.loop-i.invariant.1 ∙ ap (λ (n : ℕ). least n no_key (λ r. ready_key_by a.parts.now.counts.jobs a.named.now (ready_by (at a.parts.now.processor_of.now r) a.processor a.awake (at a.parts.now.request.now r) r) r)) all)

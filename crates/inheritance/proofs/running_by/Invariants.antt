@@ -8,7 +8,7 @@ use Rattle.weights.specs.Keys.{no_key}
 use Rattle.inheritance.specs.Inheriting.{ready_by, ready_key_by}
 use Rattle.inheritance.proofs.running_by.Given as goal
 
-abbrev pub invariant-loop-before : goal.invariant-loop-before
-invariant-loop-before l =
-    (l.before ≤ l.parts.counts.jobs)
-    × (l.lowest ≡ least l.before no_key (λ r. ready_key_by l.parts.counts.jobs l.named (ready_by (at l.parts.processor_of.now r) l.processor l.awake (at l.parts.request.now r) r) r))
+abbrev pub invariant-loop-i : goal.invariant-loop-i
+invariant-loop-i l =
+    (l.i ≤ l.parts.counts.jobs)
+    × (l.lowest ≡ least l.i no_key (λ r. ready_key_by l.parts.counts.jobs l.named (ready_by (at l.parts.processor_of.now r) l.processor l.awake (at l.parts.request.now r) r) r))
