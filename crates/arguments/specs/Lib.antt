@@ -1,2 +1,3 @@
--- Numbers in decimal, read from a text.
+-- A program's arguments: the texts, and numbers in decimal, read from a text.
 pub mod Numbers
+pub mod Texts

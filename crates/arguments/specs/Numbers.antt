@@ -1,12 +1,11 @@
 -- What a text says as a decimal number; then the laws of its digits, one after the other.
 -- Assumes nothing.
-use Rattle.std.specs.Prelude.{ℕ, zero, suc, ◌+◌, ◌*◌, ◌-◌, ◌≤◌, ◌<◌, ◌≡◌, refl, ◌⊎◌, Bool, true, false, ◌&&◌, List, leb, ltb, length, if◌then◌else◌}
+use Rattle.std.specs.Prelude.{ℕ, zero, suc, ◌+◌, ◌*◌, ◌-◌, ◌≤◌, ◌<◌, ◌≡◌, refl, ◌⊎◌, Bool, true, false, ◌&&◌, List, leb, ltb, length, if◌then◌else◌, Option, Some, None}
 use Rattle.std.proofs.Common.{ap, inl, inr, eq-or-lt_of_le, add-one, arith, leb-true, leb-false, le-leb}
 use Rattle.std.proofs.lemmas.Bool.{lt-leb}
 use Rattle.basics.specs.Choice.{between, and_right}
 use Rattle.basics.specs.Loops.{every, every-at}
 use Rattle.basics.specs.Arrays.{at}
-use Rattle.arguments.specs.declared.Number.{Number}
 
 abbrev pub is_digit : ℕ → Bool
 is_digit byte = between 48 57 byte
@@ -25,45 +24,45 @@ said_by text zero = 0
 said_by text (suc n) = with_digit (said_by text n) (at text (suc n))
 
 -- a number that may be `most`, and no more
-unfoldable pub at_most : (most number : ℕ) → Number
-at_most most number = if leb number most then Number.Value number else Number.Invalid
+unfoldable pub at_most : (most number : ℕ) → Option ℕ
+at_most most number = if leb number most then Some number else None
 
 -- what a text says where a number up to `most` is wanted
-unfoldable pub number_in : (most : ℕ) → List ℕ → Number
-number_in most text = if is_decimal text then at_most most (said_by text (length text)) else Number.Invalid
+unfoldable pub number_in : (most : ℕ) → List ℕ → Option ℕ
+number_in most text = if is_decimal text then at_most most (said_by text (length text)) else None
 
 -- ---- a number, and one that is too large
 
-pub at_most_value : (most n : ℕ) → n ≤ most → at_most most n ≡ Number.Value n
+pub at_most_value : (most n : ℕ) → n ≤ most → at_most most n ≡ Some n
 unfolding at_most
 at_most_value most n h = simp (le-leb n most h)
 
-pub at_most_invalid : (most n : ℕ) → most < n → at_most most n ≡ Number.Invalid
+pub at_most_invalid : (most n : ℕ) → most < n → at_most most n ≡ None
 unfolding at_most
 at_most_invalid most n h = simp (lt-leb n most h)
 
-pub at_most_is : (most m n : ℕ) → Number.Value n ≡ at_most most m → (n ≡ m) × (m ≤ most)
+pub at_most_is : (most m n : ℕ) → Some n ≡ at_most most m → (n ≡ m) × (m ≤ most)
 unfolding at_most
 at_most_is most m n e = go (leb m most) refl e
   where
-    go : (b : Bool) → leb m most ≡ b → Number.Value n ≡ (if b then Number.Value m else Number.Invalid) → (n ≡ m) × (m ≤ most)
+    go : (b : Bool) → leb m most ≡ b → Some n ≡ (if b then Some m else None) → (n ≡ m) × (m ≤ most)
     go true l q = (cc, leb-true m most l)
     go false l q = let z : ◌≡◌ {A = ℕ} 0 1 = cc in absurd (omega arith)
 
-pub at_most_not : (most m : ℕ) → Number.Invalid ≡ at_most most m → most < m
+pub at_most_not : (most m : ℕ) → None ≡ at_most most m → most < m
 unfolding at_most
 at_most_not most m e = go (leb m most) refl e
   where
-    go : (b : Bool) → leb m most ≡ b → Number.Invalid ≡ (if b then Number.Value m else Number.Invalid) → most < m
+    go : (b : Bool) → leb m most ≡ b → None ≡ (if b then Some m else None) → most < m
     go true l q = let z : ◌≡◌ {A = ℕ} 0 1 = cc in absurd (omega arith)
     go false l q = leb-false m most l
 
 -- a number that a text says is one that is wanted
-pub value_at_most : (most n : ℕ) (text : List ℕ) → Number.Value n ≡ number_in most text → n ≤ most
+pub value_at_most : (most n : ℕ) (text : List ℕ) → Some n ≡ number_in most text → n ≤ most
 unfolding number_in
 value_at_most most n text e = go (is_decimal text) e
   where
-    go : (d : Bool) → Number.Value n ≡ (if d then at_most most (said_by text (length text)) else Number.Invalid) → n ≤ most
+    go : (d : Bool) → Some n ≡ (if d then at_most most (said_by text (length text)) else None) → n ≤ most
     go true q = omega (arith, at_most_is most (said_by text (length text)) n q)
     go false q = let z : ◌≡◌ {A = ℕ} 0 1 = cc in absurd (omega arith)
 

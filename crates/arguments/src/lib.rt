@@ -1,78 +1,47 @@
-// Numbers in a program's arguments, in decimal.
+// A program's arguments: the texts, and the numbers that they say in decimal.
 #![tactic(auto)]
 
-ghost use Rattle.std.specs.Prelude.{◌≡◌, true, length};
+ghost use Rattle.std.specs.Prelude.{◌≡◌, ◌≤◌, length, IfSome};
 ghost use Rattle.arguments.specs.Numbers as N;
+ghost use Rattle.arguments.specs.Texts as T;
 
-// What a text says: a number, or none that is wanted.
-#[derive(Clone, Copy)]
-pub enum Number {
-    Value(u64),
-    Invalid,
+use std::env::{Env, FillError};
+use std::str;
+
+// How many bytes an argument has in its buffer, by what was answered of it: none where it is longer than the buffer.
+fn length_of(got: Result<usize, FillError>) -> Option<usize>
+    ensures { result ≡ T.length_of got }
+{
+    match got {
+        Ok(length) => Some(length),
+        Err(FillError::TooLong) => Some(0),
+        Err(FillError::NotPresent) => None,
+    }
 }
 
-// Whether the byte is a decimal digit.
-fn is_digit(byte: u8) -> bool
-    ensures { result ≡ N.is_digit byte }
+// The program's argument with this number, at the front of the buffer, and of one that is longer than the buffer no byte; nothing where there is no
+// such argument.
+pub fn argument<'a>(rt: &impl Env, i: usize, buffer: &'a mut [u8]) -> Option<&'a [u8]>
+    ensures { IfSome result (λ text. length text.now ≤ length buffer.old) }
 {
-    (b'0' <= byte) & (byte <= b'9')
+    let length = length_of(rt.arg(i, buffer))?;
+    Some(&buffer[..length])
 }
 
 // Whether the text is decimal digits alone, one or more.
 fn is_decimal(text: &[u8]) -> bool
     ensures { result ≡ N.is_decimal text.now }
 {
-    if text.len() == 0 {
-        return false;
-    }
-    let mut i = 0;
-    while i < text.len() {
-        if !is_digit(text[i]) {
-            return false;
-        }
-        i += 1;
-    }
-    true
-}
-
-// The number with a digit more, if that is at most `most`.
-fn with_digit(value: u64, digit: u8, most: u64) -> Number
-    requires { N.is_digit digit ≡ true }
-    ensures { result ≡ N.at_most most (N.with_digit value digit) }
-{
-    let units = (digit - b'0') as u64;
-    if units > most {
-        return Number::Invalid;
-    }
-    if value > (most - units) / 10 {
-        return Number::Invalid;
-    }
-    Number::Value(10 * value + units)
-}
-
-// The number that decimal digits say, if that is at most `most`.
-fn value_of(text: &[u8], most: u64) -> Number
-    requires { N.is_decimal text.now ≡ true }
-    ensures { result ≡ N.at_most most (N.said_by text.now (length text.now)) }
-{
-    let mut value: u64 = 0;
-    let mut i = 0;
-    while i < text.len() {
-        let Number::Value(next) = with_digit(value, text[i], most) else {
-            return Number::Invalid;
-        };
-        value = next;
-        i += 1;
-    }
-    Number::Value(value)
+    !text.is_empty() && text.iter().all(|byte| byte.is_ascii_digit())
 }
 
 // The number that the text says in decimal digits alone, if it says one and that is at most `most`.
-pub fn number_in(text: &[u8], most: u64) -> Number
+pub fn number_in(text: &[u8], most: u64) -> Option<u64>
     ensures { result ≡ N.number_in most text.now }
 {
     if !is_decimal(text) {
-        return Number::Invalid;
+        return None;
     }
-    value_of(text, most)
+    let number = str::from_utf8(text).ok()?.parse::<u64>().ok()?;
+    if number <= most { Some(number) } else { None }
 }

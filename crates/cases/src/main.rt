@@ -20,17 +20,13 @@ fn run_case(table_line: &[u8], line: &[u8]) {
 
 // Runs the cases of the text. A line that begins with = is the table for the lines behind it, one that begins with # is a remark.
 fn run_cases(text: &[u8]) {
-    let mut rest = text;
     let mut table_line = text;
-    while rest.len() > 0 {
-        let length = length_through(rest, b'\n');
-        let line = &rest[..length];
-        if rest[0] == b'=' {
-            table_line = line;
-        } else if rest[0] != b'#' {
-            run_case(table_line, line);
+    for line in text.split_inclusive(|byte| *byte == b'\n') {
+        match line.first() {
+            Some(b'=') => table_line = line,
+            Some(b'#') | None => {}
+            Some(_) => run_case(table_line, line),
         }
-        rest = &rest[length..];
     }
 }
 

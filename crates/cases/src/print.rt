@@ -76,9 +76,7 @@ pub(crate) fn say_ceilings(answer: CeilingsAnswer) {
 
 // Writes the ranks of the set, each behind a space.
 pub(crate) fn say_ranks(set: RankSet) {
-    let mut rank: u8 = 0;
-    while rank < 64 {
-        rank += 1;
+    for rank in 1..=64 {
         if ranks::contains(set, rank) {
             say_number(rank);
         }
@@ -87,9 +85,7 @@ pub(crate) fn say_ranks(set: RankSet) {
 
 // Writes the bytes as numbers, each behind a space.
 pub(crate) fn say_bytes(bytes: &[u8]) {
-    let mut i: usize = 0;
-    while i < bytes.len() {
-        say_number(bytes[i]);
-        i += 1;
+    for byte in bytes {
+        say_number(*byte);
     }
 }

@@ -72,11 +72,7 @@ fn page_room(lines: u8, less: u8) -> usize
     if lines > 6 {
         return 0;
     }
-    let all = 21 * (lines as usize);
-    if all < less as usize {
-        return 0;
-    }
-    all - less as usize
+    (21 * lines as usize).saturating_sub(less as usize)
 }
 
 // Lends the page writer the buffer; writes its answer and the buffer after it.
@@ -148,31 +144,22 @@ fn request_of(letter: u8, object: u8) -> u16 {
 // certify it.
 fn change_job(state: State, letter: u8, rank: u8, object: u8) -> State {
     let mut next = state;
-    if rank == 0 {
+    if !(1..=64).contains(&rank) {
         return next;
     }
-    if rank > 64 {
-        return next;
-    }
-    if letter == b'+' {
-        next.active = ranks::with(next.active, rank);
-        return next;
-    }
-    if letter == b'z' {
-        next.sleeping = ranks::with(next.sleeping, rank);
-        return next;
-    }
-    if object == 0 {
-        return next;
-    }
-    if object > 128 {
-        return next;
-    }
-    let i = (object - 1) as usize;
     match letter {
-        b'r' => next.readers[i] = ranks::with(next.readers[i], rank),
-        b'w' => next.writers[i] = ranks::with(next.writers[i], rank),
-        _ => next.request[(rank - 1) as usize] = request_of(letter, object),
+        b'+' => next.active = ranks::with(next.active, rank),
+        b'z' => next.sleeping = ranks::with(next.sleeping, rank),
+        _ if !(1..=128).contains(&object) => {}
+        b'r' => {
+            let readers = &mut next.readers[object as usize - 1];
+            *readers = ranks::with(*readers, rank);
+        }
+        b'w' => {
+            let writers = &mut next.writers[object as usize - 1];
+            *writers = ranks::with(*writers, rank);
+        }
+        _ => next.request[rank as usize - 1] = request_of(letter, object),
     }
     next
 }
@@ -180,25 +167,16 @@ fn change_job(state: State, letter: u8, rank: u8, object: u8) -> State {
 // A change of the state: k certifies the object, e makes the version so much, o the rank that is carried as the most urgent holder.
 fn change_state(state: State, letter: u8, number: u8, object: u8) -> State {
     let mut next = state;
-    if letter == b'o' {
-        next.holder = number;
-        return next;
+    match letter {
+        b'o' => next.holder = number,
+        b'e' => next.counts.version = number,
+        _ if !(1..=128).contains(&object) => {}
+        _ => {
+            let i = object - 1;
+            let word = &mut next.certified[i as usize / 64];
+            *word = ranks::with(*word, i % 64 + 1);
+        }
     }
-    if letter == b'e' {
-        let mut counts = next.counts;
-        counts.version = number;
-        next.counts = counts;
-        return next;
-    }
-    if object == 0 {
-        return next;
-    }
-    if object > 128 {
-        return next;
-    }
-    let i = object - 1;
-    let word = (i / 64) as usize;
-    next.certified[word] = ranks::with(next.certified[word], i % 64 + 1);
     next
 }
 
@@ -231,17 +209,8 @@ fn run_step(bytes: &[u8], state: State, letter: u8, rank: u8, object: u8) -> Sta
 // Runs the steps from the table's fresh state, each over the state that the one before it returned. A step is four characters:
 // a space, its letter, a rank and an object.
 pub(crate) fn run_steps(bytes: &[u8], steps: &[u8]) {
-    let read = table::read_table(bytes);
-    let mut state = read.state;
-    let mut rest = steps;
-    while rest.len() >= 4 {
-        state = run_step(
-            bytes,
-            state,
-            rest[1],
-            number_of(rest[2]),
-            number_of(rest[3]),
-        );
-        rest = &rest[4..];
+    let mut state = table::read_table(bytes).state;
+    for [_, letter, rank, object] in steps.as_chunks::<4>().0 {
+        state = run_step(bytes, state, *letter, number_of(*rank), number_of(*object));
     }
 }

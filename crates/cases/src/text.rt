@@ -20,14 +20,10 @@ pub(crate) fn length_through(text: &[u8], byte: u8) -> usize
     ensures prefix_len { IsPrefixLen result text.now }
     ensures lower_bound { min 1 (length text.now) ≤ result }
 {
-    let mut i: usize = 0;
-    while i < text.len() {
-        i += 1;
-        if text[i - 1] == byte {
-            return i;
-        }
+    match text.iter().position(|other| *other == byte) {
+        Some(i) => i + 1,
+        None => text.len(),
     }
-    i
 }
 
 // Puts the numbers that a table line's characters stand for, without its first and its line feed, into the buffer as far as it goes,
@@ -35,13 +31,9 @@ pub(crate) fn length_through(text: &[u8], byte: u8) -> usize
 pub(crate) fn read_numbers(line: &[u8], buffer: &mut [u8]) -> usize
     ensures { IsPrefixLen result buffer.new }
 {
-    let mut i: usize = 0;
-    while i + 2 < line.len() {
-        if i == buffer.len() {
-            return i;
-        }
+    let count = buffer.len().min(line.len().saturating_sub(2));
+    for i in 0..count {
         buffer[i] = number_of(line[i + 1]);
-        i += 1;
     }
-    i
+    count
 }

@@ -21,6 +21,7 @@ pub fn make_events(state: State, seed: u32, count: usize, buf: &mut [u8]) -> Res
 }
 
 // The same on the parts of a state.
+#[tactic(auto, unfolding(crate::specs::Load::load_refusal, crate::specs::Load::make_events, crate::specs::Load::events_made))]
 pub fn make_load(parts: &Parts, seed: u32, count: usize, buf: &mut [u8]) -> Result<u32, Refusal>
     ensures { (L.made_of seed result ≡ L.make_events (state_in parts.now) seed count buf.old)
         × (buf.new ≡ L.events_made (state_in parts.now) seed count buf.old) }
@@ -48,6 +49,7 @@ fn lay_load(buf: &mut [u8], counts: Counts, count: usize, seed: u32) -> u32
 }
 
 // The event from the seed laid from the index on; answers the seed behind it.
+#[tactic(auto, unfolding(crate::specs::Load::event_from))]
 fn lay_event(buf: &mut [u8], at: usize, counts: Counts, seed: u32) -> u32
     requires { Within counts × (at + 3 ≤ length buf.old) }
     ensures { (result ≡ L.step (L.step (L.step seed))) × Laid buf.old buf.new at (at + 3) 3 (L.event_from counts seed) }

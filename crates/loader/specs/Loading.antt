@@ -1,26 +1,23 @@
 -- What the program that writes a test load leaves in memory, and how it ends. What `read` and `write` moved no contract can say.
 -- Assumes nothing.
-use Rattle.std.specs.Prelude.{ℕ, zero, suc, ◌*◌, ◌-◌, ◌^◌, ◌≤◌, min, ◌≡◌, ◌≢◌, ◌⊎◌, Bool, true, false, List, [], length, take}
+use Rattle.std.specs.Prelude.{ℕ, zero, suc, ◌*◌, ◌-◌, ◌^◌, ◌≤◌, min, ◌≡◌, ◌⊎◌, List, [], length, take, Option, Some, None, Result, Ok, Err, OnErr, MatchResult}
 use Rattle.state.specs.declared.Counts.{Counts}
+use Rattle.state.specs.RefusalNumbers.{number}
 use Rattle.table_bytes.specs.Refusals.{table_refusal}
-use Rattle.table.specs.declared.TableRead.{TableRead}
-use Rattle.table.specs.Reading.{read_table}
+use Rattle.table.specs.Reading.{TableRead, read_table}
 use Rattle.decimals.specs.Laid.{at_front}
 use Rattle.generator.specs.Load.{seed_after, load}
-use Rattle.arguments.specs.declared.Number.{Number}
 use Rattle.arguments.specs.Numbers.{number_in}
-use Rattle.loader.specs.declared.Ended.{Ended}
-use Rattle.loader.specs.declared.Input.{Input}
+use Rattle.loader.specs.declared.LoadError.{LoadError}
 use Rattle.loader.specs.declared.Loaded.{Loaded}
-use Rattle.loader.specs.declared.Parted.{Parted}
 
 -- ---- the table read
 
 -- the bytes that came, at the front of the buffer; where a read failed they do not decide yet whether there is a table
-pub record ReadBytes (r : Input) (bytes bytes' : List ℕ) : Type 0 where
-  pub inside : r.held ≤ length bytes'
+pub record ReadBytes {E : Type 0} (ended : Result (Unit {0}) E) (held : ℕ) (bytes bytes' : List ℕ) : Type 0 where
+  pub inside : held ≤ length bytes'
   pub size : length bytes' ≡ length bytes
-  pub cut : r.failed ≡ true → table_refusal (take r.held bytes') ≡ 1
+  pub cut : OnErr ended (table_refusal (take held bytes') ≡ 1)
 
 -- ---- the load in parts
 
@@ -47,16 +44,11 @@ pub record AfterParts (c : Counts) (seed count : ℕ) (made next : ℕ) (buffer 
   pub buffer_is : buffer' ≡ overlaid c seed count parts buffer
 
 -- the parts of a load: all of them unless a write failed
-pub record Parts (r : Parted) (c : Counts) (seed count : ℕ) (buffer buffer' : List ℕ) : Type 0 where
-  pub after_parts : AfterParts c seed count r.made r.seed buffer buffer'
-  pub whole : r.failed ≡ false → r.made ≡ count
+pub record Parts (ended : Result (Unit {0}) LoadError) (made next : ℕ) (c : Counts) (seed count : ℕ) (buffer buffer' : List ℕ) : Type 0 where
+  pub after_parts : AfterParts c seed count made next buffer buffer'
+  pub whole : MatchResult ended (λ done. made ≡ count) (λ e. e ≡ LoadError.NotWritten)
 
 -- ---- how it ends
-
--- behind the last part, or behind one whose write failed
-abbrev pub end_of : Bool → Ended
-end_of true = Ended.NotWritten
-end_of false = Ended.Whole
 
 -- no event was made, and the event buffer is as it was
 abbrev pub NoneMade : Loaded → (seed : ℕ) (events events' : List ℕ) → Type 0
@@ -64,16 +56,16 @@ NoneMade r seed events events' = (r.made ≡ 0) × (r.seed ≡ seed) × (events'
 
 -- what was made, by how it ended, where a seed and a count are wanted and `read` is what the bytes that came are as a table: nothing unless they
 -- are accepted; and a read fails only as long as they are cut
-abbrev pub LoadsBy : Ended → (r : Loaded) (seed count : ℕ) (read : TableRead) (events events' : List ℕ) → Type 0
-LoadsBy Ended.Whole r seed count read events events' =
+abbrev pub LoadsBy : Result (Unit {0}) LoadError → (r : Loaded) (seed count : ℕ) (read : TableRead) (events events' : List ℕ) → Type 0
+LoadsBy (Ok whole) r seed count read events events' =
     (read.refusal ≡ 0) × (r.made ≡ count) × AfterParts read.state.counts seed count r.made r.seed events events'
-LoadsBy Ended.NotWritten r seed count read events events' =
+LoadsBy (Err LoadError.NotWritten) r seed count read events events' =
     (read.refusal ≡ 0) × AfterParts read.state.counts seed count r.made r.seed events events'
-LoadsBy (Ended.Refused n) r seed count read events events' = (read.refusal ≡ n) × (n ≢ 0) × NoneMade r seed events events'
-LoadsBy Ended.NotRead r seed count read events events' = (read.refusal ≡ 1) × NoneMade r seed events events'
-LoadsBy Ended.NotTwo r seed count read events events' = ⊥
-LoadsBy Ended.BadSeed r seed count read events events' = ⊥
-LoadsBy Ended.BadCount r seed count read events events' = ⊥
+LoadsBy (Err (LoadError.Refused refusal)) r seed count read events events' = (read.refusal ≡ number refusal) × NoneMade r seed events events'
+LoadsBy (Err LoadError.NotRead) r seed count read events events' = (read.refusal ≡ 1) × NoneMade r seed events events'
+LoadsBy (Err LoadError.NotTwo) r seed count read events events' = ⊥
+LoadsBy (Err LoadError.BadSeed) r seed count read events events' = ⊥
+LoadsBy (Err LoadError.BadCount) r seed count read events events' = ⊥
 
 -- a load on the table whose bytes came to the front of a buffer
 pub record Loads (r : Loaded) (seed count : ℕ) (table' events events' : List ℕ) : Type 0 where
@@ -90,15 +82,15 @@ abbrev pub most_count : ℕ
 most_count = 2 ^ 64 - 1
 
 -- it ended before it read or made anything
-abbrev pub Unstarted : Ended → (r : Loaded) (table table' events events' : List ℕ) → Type 0
+abbrev pub Unstarted : LoadError → (r : Loaded) (table table' events events' : List ℕ) → Type 0
 Unstarted e r table table' events events' =
-    (r ≡ record { ended = e; held = 0; made = 0; seed = 0 }) × (table' ≡ table) × (events' ≡ events)
+    (r ≡ record { ended = Err e; held = 0; made = 0; seed = 0 }) × (table' ≡ table) × (events' ≡ events)
 
 -- a load by what two texts say
-abbrev pub LoadsTexts : (r : Loaded) → Number → Number → (table table' events events' : List ℕ) → Type 0
-LoadsTexts r Number.Invalid count table table' events events' = Unstarted Ended.BadSeed r table table' events events'
-LoadsTexts r (Number.Value seed) Number.Invalid table table' events events' = Unstarted Ended.BadCount r table table' events events'
-LoadsTexts r (Number.Value seed) (Number.Value count) table table' events events' = Loads r seed count table' events events'
+abbrev pub LoadsTexts : (r : Loaded) → Option ℕ → Option ℕ → (table table' events events' : List ℕ) → Type 0
+LoadsTexts r None count table table' events events' = Unstarted LoadError.BadSeed r table table' events events'
+LoadsTexts r (Some seed) None table table' events events' = Unstarted LoadError.BadCount r table table' events events'
+LoadsTexts r (Some seed) (Some count) table table' events events' = Loads r seed count table' events events'
 
 -- by two texts that no contract can say, as those of arguments
 pub record LoadsSomeTexts (r : Loaded) (table table' events events' : List ℕ) : Type 0 where
@@ -109,4 +101,4 @@ pub record LoadsSomeTexts (r : Loaded) (table table' events events' : List ℕ) 
 -- by a program's arguments: there are not two, or two texts
 abbrev pub LoadsArguments : (r : Loaded) (table table' events events' : List ℕ) → Type 0
 LoadsArguments r table table' events events' =
-    Unstarted Ended.NotTwo r table table' events events' ⊎ LoadsSomeTexts r table table' events events'
+    Unstarted LoadError.NotTwo r table table' events events' ⊎ LoadsSomeTexts r table table' events events'

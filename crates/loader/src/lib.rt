@@ -1,19 +1,18 @@
 // Writes a test load: a seed and a count from two texts, the table from a reader, the events to a file descriptor, part by part.
 #![tactic(auto)]
 
-ghost use Rattle.std.specs.Prelude.{◌≡◌, true, ◌*◌, ◌≤◌, length, IfSome};
+ghost use Rattle.std.specs.Prelude.{◌≡◌, true, ◌*◌, ◌≤◌, length};
 ghost use Rattle.state.specs.WellFormed.{well_formed};
 ghost use Rattle.table_bytes.specs.Decided.{longest_table};
 ghost use Rattle.arguments.specs.Numbers.{number_in};
-ghost use Rattle.loader.specs.declared.Ended.{Ended};
-ghost use Rattle.loader.specs.Loading.{part_events, most_seed, most_count, end_of, ReadBytes, Parts, Loads, LoadsTexts, LoadsArguments};
+ghost use Rattle.loader.specs.declared.LoadError.{LoadError};
+ghost use Rattle.loader.specs.Loading.{part_events, most_seed, most_count, ReadBytes, Parts, LoadsTexts, LoadsArguments};
 
-use arguments::{Number, number_in};
-use basics::smaller;
-use descriptors::{Part, read_part};
-use state::State;
-use std::env::{Env, FillError};
-use std::io::Read;
+use arguments::{argument, number_in};
+use descriptors::read_part;
+use state::{Refusal, State};
+use std::env::Env;
+use std::io::{Error, Input, Read};
 use table_bytes::table_refusal;
 
 // The descriptor of standard output.
@@ -25,160 +24,106 @@ const STANDARD_ERROR: i32 = 2;
 // Room for the table: more than the longest has.
 pub type TableBuffer = [u8; 32768];
 
-// Room for a part of the load: 21845 events.
+// How many events a part of the load has at most.
+const PART_EVENTS: usize = 21845;
+
+// Room for a part of the load.
 pub type EventBuffer = [u8; 65535];
 
-// How it ended: all events are written; there are not two arguments; the seed or the count is no number that is wanted; a read failed; the table
-// was refused by a number; a write failed.
+// Why a load is not whole: there are not two arguments; the seed or the count is no number that is wanted; a read failed; the table was refused by a
+// number; a write failed.
 #[derive(Clone, Copy)]
-pub enum Ended {
-    Whole,
+pub enum LoadError {
     NotTwo,
     BadSeed,
     BadCount,
     NotRead,
-    Refused(u8),
+    Refused(Refusal),
     NotWritten,
+}
+
+impl From<Error> for LoadError {
+    ghost from_gives = { λ _ e. e ≡ LoadError.NotRead };
+
+    fn from(_error: Error) -> Self {
+        Self::NotRead
+    }
+}
+
+impl From<Refusal> for LoadError {
+    ghost from_gives = { λ refusal e. e ≡ LoadError.Refused refusal };
+
+    fn from(refusal: Refusal) -> Self {
+        Self::Refused(refusal)
+    }
 }
 
 // How it ended, how many bytes of the table buffer were read, how many events were made, and the seed behind them.
 #[derive(Clone, Copy)]
 pub struct Loaded {
-    pub ended: Ended,
+    pub ended: Result<(), LoadError>,
     pub held: usize,
     pub made: usize,
     pub seed: u32,
 }
 
-// What came: how many bytes, and whether a read failed.
-#[derive(Clone, Copy)]
-struct Input {
-    held: usize,
-    failed: bool,
-}
-
-// How many events were made in parts, the seed behind them, and whether a write failed.
-#[derive(Clone, Copy)]
-struct Parted {
-    made: usize,
-    seed: u32,
-    failed: bool,
-}
-
-// Whether no part came because a read failed.
-fn is_failure(part: Part) -> bool {
-    if let Part::Failed = part {
-        return true;
-    }
-    false
-}
-
-// Reads, at most so many bytes at a time, until the bytes decide whether there is a table at their front, or the input ends.
-fn read_bytes<R: Read>(from: &mut R, most: usize, bytes: &mut [u8]) -> Input
-    requires { longest_table ≤ length bytes.old }
-    ensures { ReadBytes result bytes.old bytes.new }
-{
-    let mut held = 0;
-    while table_refusal(&bytes[..held]) == 1 {
-        let part = read_part(from, most, bytes, held);
-        let Part::Bytes(count) = part else {
-            return Input {
-                held,
-                failed: is_failure(part),
-            };
-        };
-        held += count;
-    }
-    Input {
-        held,
-        failed: false,
-    }
-}
-
-// Makes the events and writes them, as many at a time as the buffer holds.
-fn write_parts(to: i32, state: State, seed: u32, count: usize, events: &mut [u8]) -> Parted
-    requires { (well_formed state ≡ true) × (length events.old ≡ 3 * part_events) }
-    ensures { Parts result state.counts seed count events.old events.new }
-{
-    let mut next = seed;
-    let mut made = 0;
-    while made < count {
-        let n = smaller(21845, count - made);
-        let part = generator::make_events(state, next, n, events);
-        next = part.seed;
-        made += n;
-        let length = 3 * n;
-        if !io::write_all(to, &events[..length]) {
-            return Parted {
-                made,
-                seed: next,
-                failed: true,
-            };
-        }
-    }
-    Parted {
-        made,
-        seed: next,
-        failed: false,
-    }
-}
-
-// How it ended behind the last part.
-fn parts_end(failed: bool) -> Ended
-    ensures { result ≡ end_of failed }
-{
-    if failed {
-        return Ended::NotWritten;
-    }
-    Ended::Whole
-}
-
-// What is handed back where no event was made.
-fn none_made(ended: Ended, held: usize, seed: u32) -> Loaded
-    ensures { result ≡ record { ended = ended; held = held; made = 0; seed = seed } }
+// A load that ended before it read or made anything.
+fn unstarted(ended: Result<(), LoadError>) -> Loaded
+    ensures { result ≡ record { ended = ended; held = 0; made = 0; seed = 0 } }
 {
     Loaded {
         ended,
-        held,
+        held: 0,
         made: 0,
-        seed,
+        seed: 0,
     }
 }
 
-// Reads the table and writes so many events from the seed.
-fn load<R: Read>(
+// Reads, at most so many bytes at a time, until the bytes decide whether there is a table at their front, or the input ends. Counts the bytes.
+fn read_bytes<R: Read>(
     from: &mut R,
-    to: i32,
     most: usize,
-    seed: u32,
-    count: usize,
-    table: &mut [u8],
-    events: &mut [u8],
-) -> Loaded
-    requires { (longest_table ≤ length table.old) × (length events.old ≡ 3 * part_events) }
-    ensures { Loads result seed count table.new events.old events.new }
+    bytes: &mut [u8],
+    held: &mut usize,
+) -> std::io::Result<()>
+    requires { (longest_table ≤ length bytes.old) × (held.old ≡ 0) }
+    ensures { ReadBytes result held.new bytes.old bytes.new }
 {
-    let input = read_bytes(from, most, table);
-    let held = input.held;
-    if input.failed {
-        return none_made(Ended::NotRead, held, seed);
+    while let Err(Refusal::TableCut) = table_refusal(&bytes[..*held]) {
+        let Some(count) = read_part(from, most, bytes, *held)? else {
+            break;
+        };
+        *held += count;
     }
-    let read = table::read_table(&table[..held]);
-    if read.refusal != 0 {
-        return none_made(Ended::Refused(read.refusal), held, seed);
-    }
-    let state = read.state;
-    let parted = write_parts(to, state, seed, count, events);
-    Loaded {
-        ended: parts_end(parted.failed),
-        held,
-        made: parted.made,
-        seed: parted.seed,
-    }
+    Ok(())
 }
 
-// The same with the seed and the count from two texts.
-fn load_texts<R: Read>(
+// Makes the events and writes them, as many at a time as the buffer holds. Counts the events, and leaves the seed behind them.
+fn write_parts(
+    to: i32,
+    state: State,
+    count: usize,
+    events: &mut [u8],
+    loaded: &mut Loaded,
+) -> Result<(), LoadError>
+    requires { (well_formed state ≡ true) × (length events.old ≡ 3 * part_events) × (loaded.old.made ≡ 0) }
+    ensures parts { Parts result loaded.new.made loaded.new.seed state.counts loaded.old.seed count events.old events.new }
+    ensures held { loaded.new.held ≡ loaded.old.held }
+{
+    while loaded.made < count {
+        let n = PART_EVENTS.min(count - loaded.made);
+        let made = generator::make_events(state, loaded.seed, n, events);
+        loaded.seed = made.unwrap_or(loaded.seed);
+        loaded.made += n;
+        if !io::write_all(to, &events[..3 * n]) {
+            return Err(LoadError::NotWritten);
+        }
+    }
+    Ok(())
+}
+
+// Takes the seed and the count from two texts, reads the table and writes so many events from the seed.
+fn load<R: Read>(
     seed_text: &[u8],
     count_text: &[u8],
     from: &mut R,
@@ -186,54 +131,38 @@ fn load_texts<R: Read>(
     most: usize,
     table: &mut [u8],
     events: &mut [u8],
-) -> Loaded
-    requires { (longest_table ≤ length table.old) × (length events.old ≡ 3 * part_events) }
-    ensures { LoadsTexts result (number_in most_seed seed_text.now) (number_in most_count count_text.now)
+    loaded: &mut Loaded,
+) -> Result<(), LoadError>
+    requires room { (longest_table ≤ length table.old) × (length events.old ≡ 3 * part_events) }
+    requires unstarted { (loaded.old.held ≡ 0) × (loaded.old.made ≡ 0) × (loaded.old.seed ≡ 0) }
+    ensures { LoadsTexts (record loaded.new { ended = result }) (number_in most_seed seed_text.now) (number_in most_count count_text.now)
         table.old table.new events.old events.new }
 {
-    let Number::Value(seed) = number_in(seed_text, 4294967295) else {
-        return none_made(Ended::BadSeed, 0, 0);
-    };
-    let Number::Value(count) = number_in(count_text, 18446744073709551615) else {
-        return none_made(Ended::BadCount, 0, 0);
-    };
-    load(from, to, most, seed as u32, count as usize, table, events)
+    let seed = number_in(seed_text, u32::MAX as u64).ok_or(LoadError::BadSeed)?;
+    let count = number_in(count_text, u64::MAX).ok_or(LoadError::BadCount)?;
+    loaded.seed = seed as u32;
+    read_bytes(from, most, table, &mut loaded.held)?;
+    let read = table::read_table(&table[..loaded.held])?;
+    write_parts(to, read.state, count as usize, events, loaded)
 }
 
 // Says in one line why the load is not whole.
-fn report(errors: i32, ended: Ended) {
-    match ended {
-        Ended::Whole => {}
-        Ended::NotTwo => {
-            io::write_all(
-                errors,
-                b"load: a seed and a count are wanted: load SEED COUNT < table\n",
-            );
+fn report(errors: i32, error: LoadError) {
+    let line: &[u8] = match error {
+        LoadError::NotTwo => b"load: a seed and a count are wanted: load SEED COUNT < table\n",
+        LoadError::BadSeed => b"load: the seed is not a decimal number from 0 to 4294967295\n",
+        LoadError::BadCount => {
+            b"load: the count is not a decimal number from 0 to 18446744073709551615\n"
         }
-        Ended::BadSeed => {
-            io::write_all(
-                errors,
-                b"load: the seed is not a decimal number from 0 to 4294967295\n",
-            );
-        }
-        Ended::BadCount => {
-            io::write_all(
-                errors,
-                b"load: the count is not a decimal number from 0 to 18446744073709551615\n",
-            );
-        }
-        Ended::NotRead => {
-            io::write_all(errors, b"load: the table cannot be read\n");
-        }
-        Ended::Refused(number) => {
+        LoadError::NotRead => b"load: the table cannot be read\n",
+        LoadError::Refused(refusal) => {
             io::write_all(errors, b"load: the table is refused by ");
-            io::print_decimal(errors, number as u64);
-            io::write_all(errors, b"\n");
+            io::print_decimal(errors, refusal.number() as u64);
+            b"\n"
         }
-        Ended::NotWritten => {
-            io::write_all(errors, b"load: the events cannot be written\n");
-        }
-    }
+        LoadError::NotWritten => b"load: the events cannot be written\n",
+    };
+    io::write_all(errors, line);
 }
 
 // Writes the load that two texts ask for, a seed and a count, on the table that comes on `from`, at most so many bytes at a time (and at least
@@ -253,57 +182,47 @@ pub fn write_load<R: Read>(
     ensures { LoadsTexts result (number_in most_seed seed_text.now) (number_in most_count count_text.now)
         table.old table.new events.old events.new }
 {
-    let loaded = load_texts(seed_text, count_text, from, to, most, table, events);
-    let ended = loaded.ended;
-    report(errors, ended);
-    loaded
-}
-
-// How many bytes of the buffer have the argument with this number, none of them where it is longer than the buffer; nothing where there is no such
-// argument.
-fn argument(rt: &impl Env, i: usize, text: &mut [u8]) -> Option<usize>
-    ensures { IfSome result (λ n. n ≤ length text.new) }
-{
-    match rt.arg(i, text) {
-        Ok(n) => Some(n),
-        Err(FillError::TooLong) => Some(0),
-        Err(FillError::NotPresent) => None,
+    let mut loaded = unstarted(Ok(()));
+    loaded.ended = load(
+        seed_text,
+        count_text,
+        from,
+        to,
+        most,
+        table,
+        events,
+        &mut loaded,
+    );
+    if let Err(error) = loaded.ended {
+        report(errors, error);
     }
-}
-
-// What is said and handed back where there are not two arguments.
-fn not_two() -> Loaded
-    ensures { result ≡ record { ended = Ended.NotTwo; held = 0; made = 0; seed = 0 } }
-{
-    report(STANDARD_ERROR, Ended::NotTwo);
-    none_made(Ended::NotTwo, 0, 0)
+    loaded
 }
 
 // The load that the program's two arguments ask for, on the table of standard input, written to standard output; what stops it is said on
 // standard error.
 pub fn write_standard_load(
-    rt: &(impl std::io::Input + Env),
+    rt: &(impl Input + Env),
     table: &mut TableBuffer,
     events: &mut EventBuffer,
 ) -> Loaded
     ensures { LoadsArguments result table.old table.new events.old events.new }
 {
-    let mut seed_text = io::buffer();
-    let mut count_text = io::buffer();
+    let mut seed_buffer = io::buffer();
+    let mut count_buffer = io::buffer();
     let mut another = [0; 1];
-    let Some(seed_length) = argument(rt, 1, &mut seed_text) else {
-        return not_two();
+    let (Some(seed_text), Some(count_text), None) = (
+        argument(rt, 1, &mut seed_buffer),
+        argument(rt, 2, &mut count_buffer),
+        argument(rt, 3, &mut another),
+    ) else {
+        report(STANDARD_ERROR, LoadError::NotTwo);
+        return unstarted(Err(LoadError::NotTwo));
     };
-    let Some(count_length) = argument(rt, 2, &mut count_text) else {
-        return not_two();
-    };
-    if let Some(_) = argument(rt, 3, &mut another) {
-        return not_two();
-    }
     let mut from = rt.reader();
     write_load(
-        &seed_text[..seed_length],
-        &count_text[..count_length],
+        seed_text,
+        count_text,
         &mut from,
         STANDARD_OUTPUT,
         STANDARD_ERROR,

@@ -11,7 +11,8 @@ use Rattle.ranks.specs.UnionLaws.{size_counts}
 use Rattle.state.specs.declared.State.{State}
 use Rattle.state.specs.State.{is_active, processor_of_job}
 use Rattle.state.specs.WellFormed.{well_formed}
-use Rattle.state.specs.Facts.{Facts}
+use Rattle.state.specs.Facts.{Sized, Facts}
+use Rattle.state.specs.WellFormedFacts.{facts}
 use Rattle.rule.specs.Granting.{named_holder_of, named_object_of}
 use Rattle.inheritance.specs.Running.{inherited_from, inherited_rank}
 use Rattle.decimals.specs.Laid.{at_front}
@@ -53,6 +54,10 @@ module _ (s : State) (F : Facts s) where
   page_length =
       lines_length s.counts.jobs (le_refl s.counts.jobs)
       ∙ ap (λ (n : ℕ). 21 * n) (sym (size_counts s.counts.jobs s.active F.active_jobs))
+
+-- the same, by the test of the state
+pub page_long : (s : State) (well : Bool) → (well ≡ well_formed s) × Sized s → well ≡ true → length (page s) ≡ 21 * size s.active
+page_long s well tested w = page_length s (facts s tested.1 (sym tested.0 ∙ w))
 
 -- ---- refused by 8, refused by 22, written
 

@@ -27,6 +27,7 @@ pub fn page(state: State, buf: &mut [u8]) -> Result<usize, Refusal>
 }
 
 // The same on the parts of a state.
+#[tactic(auto, using(crate::specs::PageLaws::page_long), unfolding(crate::specs::Page::page_refusal, crate::specs::Page::write_page, crate::specs::Page::page_written))]
 pub fn write_page(parts: &Parts, buf: &mut [u8]) -> Result<usize, Refusal>
     ensures { (length_reply result ≡ P.write_page (state_in parts.now) buf.old) × (buf.new ≡ P.page_written (state_in parts.now) buf.old) }
 {

@@ -65,6 +65,7 @@ fn lay_field(buf: &mut [u8], at: usize, number: u8) -> usize
 }
 
 // The same of the holder or the object of a named lock; blank where the holder is 0, nobody.
+#[tactic(auto, unfolding(decimals::specs::Fields::right_aligned))]
 fn lay_named(buf: &mut [u8], at: usize, holder: u8, number: u8) -> usize
     requires { at + 4 ≤ length buf.old }
     ensures { Laid buf.old buf.new at result 4 (space ∷ right_aligned 3 (named_field holder number)) }
@@ -91,6 +92,7 @@ fn lay_line(line: &mut [u8], fields: Fields)
 }
 
 // The rank's line, which fills the lent part.
+#[tactic(auto, using(basics::specs::Arrays::at_index), unfolding(crate::specs::Parts::line_by))]
 fn lay_rank(line: &mut [u8], parts: &Parts, named: &JobLocks, running: &ProcessorRanks, rank: u8)
     requires { (length line.old ≡ 21) × (1 ≤ rank) × (rank ≤ most_jobs) × (parts.now.counts.jobs ≤ most_jobs)
         × (at parts.now.processor_of.now rank < most_processors) }
@@ -114,6 +116,7 @@ fn lay_rank(line: &mut [u8], parts: &Parts, named: &JobLocks, running: &Processo
 }
 
 // The lines of the active ranks, one behind the other from the buffer's front on; the bytes behind them stay.
+#[tactic(auto, unfolding(crate::specs::Parts::lines_by, basics::specs::Loops::joined))]
 pub fn lay_lines(buf: &mut [u8], parts: &Parts, named: &JobLocks, running: &ProcessorRanks)
     requires { Within parts.now.counts × ProcessorsFit parts.now.counts parts.now.processor_of.now
         × (length (lines_by parts.now.counts.jobs parts.now.counts.jobs named.now running.now parts.now.processor_of.now parts.now.active
@@ -122,8 +125,8 @@ pub fn lay_lines(buf: &mut [u8], parts: &Parts, named: &JobLocks, running: &Proc
         parts.now.active parts.now.sleeping parts.now.request.now) buf.old }
 {
     let mut end = 0;
-    for before in 0..parts.counts.jobs {
-        let rank = before + 1;
+    for i in 0..usize::from(parts.counts.jobs) {
+        let rank = (i + 1) as u8;
         if contains(parts.active, rank) {
             let start = end;
             end += 21;

@@ -18,8 +18,7 @@ use Rattle.weights.specs.Keys.{others_key, object_key, lowest_key_by}
 use Rattle.rule.specs.Granting.{named_key, reason, wakeable}
 use Rattle.inheritance.specs.Running as R
 use Rattle.inheritance.specs.Running.{running_rank}
-use Rattle.questions.specs.declared.RankAnswer.TheVariants.{Rank}
-use Rattle.questions.specs.declared.CeilingsAnswer.TheVariants.{Ceilings}
+use Rattle.questions.specs.Answers.{Rank, Ceilings}
 use Rattle.events.specs.Answers.{paper}
 use Rattle.refusals.specs.Refusals.{all_certified, event_refusal, refusal, job_refusal, object_refusal, processor_refusal}
 use Rattle.events.specs.Events.{request_meeting, woken, wake, accepted}

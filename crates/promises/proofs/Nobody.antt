@@ -33,11 +33,8 @@ use Rattle.events.specs.declared.Answer.TheVariants.{Granted, Waits, Done}
 use Rattle.events.specs.Events.{outcome, request_meeting, request, woken, wake, accepted, unless_refused}
 use Rattle.events.specs.Keeping.{release_accepted_keeps}
 use Rattle.manager.specs.Step.{step}
-use Rattle.questions.specs.declared.RankAnswer.{RankAnswer}
-use Rattle.questions.specs.declared.NamedAnswer.{NamedAnswer}
-use Rattle.questions.specs.declared.CeilingsAnswer.{CeilingsAnswer}
 use Rattle.basics.specs.Replies.{value}
-use Rattle.questions.specs.Answers.{ceilings_reply}
+use Rattle.questions.specs.Answers.{RankAnswer, NamedAnswer, CeilingsAnswer, ceilings_reply}
 use Rattle.questions.specs.Questions.{ask_inherited_rank, ask_named_lock, ask_ceilings, ask_running}
 use Rattle.promises.specs.Terms.{old_request, CeilingIs}
 use Rattle.promises.specs.NobodyAs65 as B

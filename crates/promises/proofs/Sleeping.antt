@@ -21,8 +21,7 @@ use Rattle.events.specs.declared.Answer.TheVariants.{Granted, Waits, Done, Refus
 use Rattle.events.specs.Answers.{paper}
 use Rattle.events.specs.Events.{outcome, start, request_meeting, request, wake, unlock, finish, sleep_or_awaken, accepted}
 use Rattle.manager.specs.Step.{step, step_accepted}
-use Rattle.questions.specs.declared.RankAnswer.{RankAnswer}
-use Rattle.questions.specs.declared.NamedAnswer.{NamedAnswer}
+use Rattle.questions.specs.Answers.{RankAnswer, NamedAnswer}
 use Rattle.questions.specs.Questions.{ask_inherited_rank, ask_named_lock}
 use Rattle.promises.proofs.Requests.{none_refuses}
 

@@ -7,10 +7,9 @@ use native.Mathlib.Omega.{arith}
 use Rattle.std.proofs.Math.ListN.{take, length-append, length-take, length-drop, length-replicate}
 use Rattle.state.specs.State.{most_jobs, read, write, most_objects, mark_words, zeros}
 use Rattle.state.specs.Facts.{Sized}
-use Rattle.table.specs.declared.TableRead.{TableRead}
 use Rattle.table_bytes.specs.Bytes.{version_in, jobs_in, entry_count}
 use Rattle.table_bytes.specs.Refusals.{table_refusal}
-use Rattle.table.specs.Reading.{processors_of, table_state, read_table}
+use Rattle.table.specs.Reading.{TableRead, processors_of, table_state, read_table}
 use Rattle.table_bytes.specs.AcceptedTable.{AcceptedTable, accepted_table}
 use Rattle.table.specs.Declarations.{declared_fits}
 use Rattle.table.specs.Fresh.{read_refusal, read_accepted}

@@ -4,8 +4,7 @@
 use Rattle.std.specs.Prelude.{ℕ, List, [], ◌∷◌}
 use Rattle.state.specs.declared.State.{State}
 use Rattle.table.specs.Reading.{read_table}
-use Rattle.questions.specs.declared.RankAnswer.{RankAnswer}
-use Rattle.questions.specs.declared.RankAnswer.TheVariants.{Rank}
+use Rattle.questions.specs.Answers.{RankAnswer, Rank}
 use Rattle.questions.specs.Questions.{ask_inherited_rank, ask_running}
 use Rattle.events.specs.Answers.{Paper, paper}
 use Rattle.manager.specs.Step.{step}

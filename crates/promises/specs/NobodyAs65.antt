@@ -16,9 +16,7 @@ use Rattle.refusals.specs.Refusals.{is_request, mode_of, refusal, job_refusal, o
 use Rattle.events.specs.declared.Outcome.{Outcome}
 use Rattle.events.specs.declared.Answer.TheVariants.{Granted, Waits, Done, Refused}
 use Rattle.events.specs.Events.{outcome, start, woken, sleep_or_awaken, unless_refused}
-use Rattle.questions.specs.declared.RankAnswer.{RankAnswer}
-use Rattle.questions.specs.declared.NamedAnswer.{NamedAnswer}
-use Rattle.questions.specs.declared.CeilingsAnswer.{CeilingsAnswer}
+use Rattle.questions.specs.Answers.{RankAnswer, NamedAnswer, CeilingsAnswer}
 
 -- ---- ceilings and weights
 

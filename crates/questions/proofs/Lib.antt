@@ -1,2 +1,2 @@
--- What a question comes to once its refusal is known.
+-- What a question that is not refused may count on.
 pub mod Asked

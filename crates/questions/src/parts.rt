@@ -24,6 +24,7 @@ pub struct Ceilings {
 }
 
 // A job's inherited rank: the most urgent of its own and those of the waiting jobs that name it.
+#[tactic(auto, unfolding(crate::specs::Questions::ask_inherited_rank, refusals::specs::Refusals::job_refusal))]
 pub fn ask_inherited_rank(parts: &Parts, rank: u8) -> Result<u8, Refusal>
     ensures { rank_of result ≡ Q.ask_inherited_rank (state_in parts.now) rank }
 {
@@ -32,6 +33,7 @@ pub fn ask_inherited_rank(parts: &Parts, rank: u8) -> Result<u8, Refusal>
 }
 
 // The lock that a job names.
+#[tactic(auto, unfolding(crate::specs::Questions::ask_named_lock, refusals::specs::Refusals::job_refusal))]
 pub fn ask_named_lock(parts: &Parts, rank: u8) -> Result<NamedLock, Refusal>
     ensures { named_of result ≡ Q.ask_named_lock (state_in parts.now) rank }
 {
@@ -45,6 +47,7 @@ pub fn ask_named_lock(parts: &Parts, rank: u8) -> Result<NamedLock, Refusal>
 }
 
 // The two ceilings of an object.
+#[tactic(auto, unfolding(crate::specs::Questions::ask_ceilings, refusals::specs::Refusals::object_refusal))]
 pub fn ask_ceilings(parts: &Parts, object: u8) -> Result<Ceilings, Refusal>
     ensures { ceilings_of result ≡ Q.ask_ceilings (state_in parts.now) object }
 {
@@ -58,6 +61,7 @@ pub fn ask_ceilings(parts: &Parts, object: u8) -> Result<Ceilings, Refusal>
 }
 
 // The rank that a processor runs, 0 if it is idle.
+#[tactic(auto, unfolding(crate::specs::Questions::ask_running, refusals::specs::Refusals::processor_refusal))]
 pub fn ask_running(parts: &Parts, processor: u8) -> Result<u8, Refusal>
     ensures { rank_of result ≡ Q.ask_running (state_in parts.now) processor }
 {

@@ -1,2 +1,2 @@
 pub mod StepLaws
-pub mod MoveLaws
+pub mod TurnLaws

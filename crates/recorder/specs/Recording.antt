@@ -1,14 +1,19 @@
 -- What the program that writes the record keeps between two parts of its input. What `read` and `write` moved no contract can say; what
 -- stands in memory, before and after them, is said here.
 -- Assumes nothing.
-use Rattle.std.specs.Prelude.{ℕ, ◌+◌, ◌*◌, ◌-◌, ◌^◌, ◌≤◌, ◌<◌, ◌≡◌, ◌⊎◌, List, [], ◌∷◌, ◌++◌, length, take, drop}
+use Rattle.std.specs.Prelude.{ℕ, ◌+◌, ◌*◌, ◌-◌, ◌^◌, ◌≤◌, ◌<◌, ◌≡◌, ◌⊎◌, List, [], ◌∷◌, ◌++◌, length, take, drop, zero, suc, codes, Result, Ok, Err}
 use Rattle.std.proofs.lemmas.List.Edits.{sets}
 use Rattle.decimals.specs.Laid.{Laid}
 use Rattle.stream.specs.declared.Bench.{Bench}
 use Rattle.stream.specs.Parts.{Advance, feed, Progress, begun, fed, fed_all, joined_parts}
-use Rattle.recorder.specs.declared.Ended.{Ended}
+use Rattle.recorder.specs.declared.RecordError.{RecordError}
 use Rattle.recorder.specs.declared.Recorded.{Recorded}
-use Rattle.recorder.specs.declared.Fed.{Fed}
+
+-- what a part did: the bench behind it, how many bytes are held for the next, and the length of the lines that were laid
+pub record Fed : Type 0 where
+  pub bench : Bench
+  pub held : ℕ
+  pub laid : ℕ
 
 -- a part that was fed: its lines stand at the front of their buffer, and the bytes that were not used at the front of the input's; both
 -- buffers are otherwise as they were
@@ -45,21 +50,27 @@ most_bytes = 2 ^ 64 - 2 ^ 16
 
 -- how it may end behind so many bytes: the record is whole at the input's end or behind a refused table; which of read and write failed
 -- only a run shows
-abbrev pub MayEnd : Ended → ℕ → Bench → Type 0
-MayEnd Ended.Whole received r = (received < most_bytes) ⊎ (2 ≤ r.refusal)
-MayEnd Ended.NotRead received r = received < most_bytes
-MayEnd Ended.NotWritten received r = Unit {0}
-MayEnd Ended.TooLong received r = most_bytes ≤ received
+abbrev pub MayEnd : Result (Unit {0}) RecordError → ℕ → Bench → Type 0
+MayEnd (Ok whole) received r = (received < most_bytes) ⊎ (2 ≤ r.refusal)
+MayEnd (Err RecordError.NotRead) received r = received < most_bytes
+MayEnd (Err RecordError.NotWritten) received r = Unit {0}
+MayEnd (Err RecordError.TooLong) received r = most_bytes ≤ received
 
 -- what is said of it: 0 nothing, 1 that the input cannot be read, which is so too of one that is too long, 2 that the record cannot be written
-abbrev pub failure_of : Ended → ℕ
-failure_of Ended.Whole = 0
-failure_of Ended.NotRead = 1
-failure_of Ended.TooLong = 1
-failure_of Ended.NotWritten = 2
+abbrev pub failure_of : Result (Unit {0}) RecordError → ℕ
+failure_of (Ok whole) = 0
+failure_of (Err RecordError.NotRead) = 1
+failure_of (Err RecordError.TooLong) = 1
+failure_of (Err RecordError.NotWritten) = 2
+
+-- the line that says it
+abbrev pub failure_line : ℕ → List ℕ
+failure_line zero = []
+failure_line (suc zero) = codes "bench: the input cannot be read\n"
+failure_line (suc (suc n)) = codes "bench: the record cannot be written\n"
 
 -- how it may end where no part came
-abbrev pub MayEndWithoutPart : Ended → Bench → Type 0
+abbrev pub MayEndWithoutPart : Result (Unit {0}) RecordError → Bench → Type 0
 MayEndWithoutPart e r = (received : ℕ) → received < most_bytes → MayEnd e received r
 
 -- what is handed back, the input buffer, whose front has the bytes held, and the record buffer

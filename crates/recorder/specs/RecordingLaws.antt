@@ -1,7 +1,7 @@
 -- What holds of the bench and the bytes held behind each part: they are as the parts leave them (`after_fed`), the bytes are fewer than a
 -- table has (`fed_short`), and the events and the bytes are no more than have come (`fed_count`).
 -- Assumes nothing.
-use Rattle.std.specs.Prelude.{ℕ, ◌+◌, ◌≤◌, ◌<◌, ◌≡◌, refl, List, [], ◌∷◌, ◌++◌, length, take, drop}
+use Rattle.std.specs.Prelude.{ℕ, ◌+◌, ◌≤◌, ◌<◌, ◌≡◌, refl, List, [], ◌∷◌, ◌++◌, length, take, drop, Result}
 use Rattle.std.proofs.Common.{sym, ap, ap₂, subst, ◌∙◌, add-zero, zero-add, arith, length-append, length-drop, take-append-drop, take-take, length-take-le}
 use Rattle.std.proofs.lemmas.List.Edits.{sets}
 use Rattle.table_bytes.specs.Decided.{longest_table}
@@ -9,10 +9,9 @@ use Rattle.decimals.specs.Laid.{laid_front}
 use Rattle.stream.specs.declared.Bench.{Bench}
 use Rattle.stream.specs.Parts.{Advance, unread, feed, Progress, begun, fed, fed_all, joined_parts}
 use Rattle.stream.specs.AnyParts.{settled_short, feed_count, feed_settled}
-use Rattle.recorder.specs.declared.Fed.{Fed}
-use Rattle.recorder.specs.declared.Ended.{Ended}
+use Rattle.recorder.specs.declared.RecordError.{RecordError}
 use Rattle.recorder.specs.declared.Recorded.{Recorded}
-use Rattle.recorder.specs.Recording.{Feeds, overlaid, AfterParts, MayEnd, Records}
+use Rattle.recorder.specs.Recording.{Fed, Feeds, overlaid, AfterParts, MayEnd, Records}
 
 pub after_none : (r : Bench) (lines : List ℕ) → r ≡ unread → AfterParts r [] 0 lines lines
 unfolding fed_all joined_parts overlaid
@@ -102,7 +101,7 @@ module _ (r : Bench) (filled : ℕ) (input after a b : List ℕ) (f : Fed) (h : 
       }
 
 -- what is handed back, by its parts
-pub records_is : {r : Recorded} {e : Ended} {received held : ℕ} {bench : Bench} {input lines lines' : List ℕ}
+pub records_is : {r : Recorded} {e : Result (Unit {0}) RecordError} {received held : ℕ} {bench : Bench} {input lines lines' : List ℕ}
     → r ≡ record { ended = e; received = received; bench = bench; held = held }
     → AfterParts bench (take held input) received lines lines' → held ≤ length input → MayEnd e received bench → Records r input lines lines'
 records_is {r} {e} {received} {held} {bench} {input} {lines} {lines'} is d h k =

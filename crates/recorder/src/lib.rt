@@ -1,14 +1,15 @@
 // Writes the bench record of what comes from a reader to a file descriptor, part by part, as it comes.
 #![tactic(auto)]
 
-ghost use Rattle.std.specs.Prelude.{◌≡◌, ◌+◌, ◌*◌, ◌-◌, ◌^◌, ◌≤◌, ◌<◌, length, take, drop};
+ghost use Rattle.std.specs.Prelude.{◌≡◌, ◌+◌, ◌*◌, ◌-◌, ◌^◌, ◌≤◌, ◌<◌, length, take, drop, IsOkUnless};
 ghost use Rattle.table_bytes.specs.Decided.{longest_table};
 ghost use Rattle.decimals.specs.Laid.{Laid};
-ghost use Rattle.stream.specs.Parts.{feed, Advances};
-ghost use Rattle.recorder.specs.Recording.{Feeds, AfterSomeParts, failure_of, MayEndWithoutPart, Records};
+ghost use Rattle.stream.specs.Parts.{unread, feed, Advances};
+ghost use Rattle.recorder.specs.declared.RecordError.{RecordError};
+ghost use Rattle.recorder.specs.Recording.{Feeds, AfterSomeParts, failure_of, failure_line, MayEndWithoutPart, Records};
 
-use descriptors::{Part, read_part};
-use std::io::{Input, Read};
+use descriptors::read_part;
+use std::io::{Error, Input, Read};
 use stream::{Advanced, Bench};
 
 // The descriptor of standard output.
@@ -23,30 +24,44 @@ pub type InputBuffer = [u8; 32768];
 // Room for all lines that the input buffer decides: 15 bytes for each of its bytes, and two lines.
 pub type RecordBuffer = [u8; 491610];
 
-// How it ended: the record is whole, a read failed, a write failed, or more events came than 64 bits count.
+// So many bytes are read, and no part behind them: a proved loop has to end, and 64 bits count the events of these.
+const MOST_BYTES: u64 = 18446744073709486080;
+
+// Why a record is not whole: a read failed, a write failed, or more events came than 64 bits count.
 #[derive(Clone, Copy)]
-pub enum Ended {
-    Whole,
+pub enum RecordError {
     NotRead,
     NotWritten,
     TooLong,
 }
 
+impl From<Error> for RecordError {
+    ghost from_gives = { λ _ e. e ≡ RecordError.NotRead };
+
+    fn from(_error: Error) -> Self {
+        Self::NotRead
+    }
+}
+
+impl RecordError {
+    // The line that says it.
+    fn line(self) -> &'static [u8]
+        ensures { result.now ≡ failure_line (failure_of (Err self)) }
+    {
+        match self {
+            RecordError::NotRead | RecordError::TooLong => b"bench: the input cannot be read\n",
+            RecordError::NotWritten => b"bench: the record cannot be written\n",
+        }
+    }
+}
+
 // How it ended, how many bytes came, the bench behind them, and how many of them are held at the front of the input buffer.
 #[derive(Clone, Copy)]
 pub struct Recorded {
-    pub ended: Ended,
+    pub ended: Result<(), RecordError>,
     pub received: u64,
     pub bench: Bench,
     pub held: usize,
-}
-
-// What a part did: the bench behind it, how many bytes are held for the next, and the length of the lines that were laid.
-#[derive(Clone, Copy)]
-struct Fed {
-    bench: Bench,
-    held: usize,
-    laid: usize,
 }
 
 // All that the bytes decide, laid in two steps: one for the table, one for the events behind it.
@@ -55,15 +70,11 @@ fn take_steps(bench: Bench, bytes: &[u8], lines: &mut [u8]) -> Advanced
     ensures { Advances result (feed bench bytes.now) 90 lines.old lines.new }
 {
     let first = stream::advance(bench, bytes, lines);
-    let middle = first.bench;
-    let used = first.used;
-    let laid = first.laid;
-    let second = stream::advance(middle, &bytes[used..], &mut lines[laid..]);
-    let after = second.bench;
+    let second = stream::advance(first.bench, &bytes[first.used..], &mut lines[first.laid..]);
     Advanced {
-        bench: after,
-        used: used + second.used,
-        laid: laid + second.laid,
+        bench: second.bench,
+        used: first.used + second.used,
+        laid: first.laid + second.laid,
     }
 }
 
@@ -72,124 +83,73 @@ fn move_to_front(buf: &mut [u8], from: usize, to: usize) -> usize
     requires { (from ≤ to) × (to ≤ length buf.old) }
     ensures { Laid buf.old buf.new 0 result (to - from) (drop from (take to buf.old)) }
 {
-    let count = to - from;
-    let mut i = 0;
-    while i < count {
-        buf[i] = buf[from + i];
-        i += 1;
-    }
-    count
+    buf.copy_within(from..to, 0);
+    to - from
 }
 
-// A part has come: the input buffer starts with the bytes that were held and goes on with the part, so many bytes in all. Lays all lines
-// that they decide, and holds the bytes that were not used at the front of the input buffer.
-fn feed(bench: Bench, input: &mut [u8], filled: usize, lines: &mut [u8]) -> Fed
-    requires { (filled ≤ length input.old) × (90 + 15 * filled ≤ length lines.old) × (bench.events + filled + 1 < 2 ^ 64) }
-    ensures { Feeds result (take filled input.old) (feed bench (take filled input.old)) input.old input.new lines.old lines.new }
+// So many bytes have come, and stand in the input buffer behind those that are held. Lays all lines that they decide, and holds the bytes that were not
+// used at the front of the input buffer. Answers the length of the lines.
+fn feed(recorded: &mut Recorded, input: &mut [u8], count: usize, lines: &mut [u8]) -> usize
+    requires { (recorded.old.held + count ≤ length input.old) × (90 + 15 * (recorded.old.held + count) ≤ length lines.old)
+        × (recorded.old.bench.events + (recorded.old.held + count) + 1 < 2 ^ 64) × (recorded.old.received + count < 2 ^ 64) }
+    ensures fed { Feeds (record { bench = recorded.new.bench; held = recorded.new.held; laid = result })
+        (take (recorded.old.held + count) input.old) (feed recorded.old.bench (take (recorded.old.held + count) input.old))
+        input.old input.new lines.old lines.new }
+    ensures received { recorded.new.received ≡ recorded.old.received + count }
 {
-    let advanced = take_steps(bench, &input[..filled], lines);
-    let after = advanced.bench;
-    let used = advanced.used;
-    let held = move_to_front(input, used, filled);
-    Fed {
-        bench: after,
-        held,
-        laid: advanced.laid,
-    }
+    let filled = recorded.held + count;
+    let advanced = take_steps(recorded.bench, &input[..filled], lines);
+    recorded.bench = advanced.bench;
+    recorded.held = move_to_front(input, advanced.used, filled);
+    recorded.received += count as u64;
+    advanced.laid
 }
 
-// Writes the first n bytes; answers whether that went well.
-fn write_lines(to: i32, lines: &[u8], n: usize) -> bool
-    requires { n ≤ length lines.now }
+// Writes the lines.
+fn write_lines(to: i32, lines: &[u8]) -> Result<(), RecordError>
+    ensures { IsOkUnless result RecordError.NotWritten }
 {
-    io::write_all(to, &lines[..n])
+    if io::write_all(to, lines) {
+        Ok(())
+    } else {
+        Err(RecordError::NotWritten)
+    }
 }
 
 // Writes the last line, where the first bytes of the input buffer were not used: those that some parts leave to this bench.
-fn write_last(to: i32, bench: Bench, input: &[u8], held: usize) -> bool
-    requires { AfterSomeParts bench (take held input.now) × (held ≤ length input.now) }
-{
-    let mut line = [0; 64];
-    let n = stream::last_line(&mut line, bench, held);
-    write_lines(to, &line, n)
-}
-
-// How the record ends where no part came: with its last line, or with none where a read failed.
-fn end_record(to: i32, part: Part, bench: Bench, input: &[u8], held: usize) -> Ended
+fn write_last(to: i32, bench: Bench, input: &[u8], held: usize) -> Result<(), RecordError>
     requires { AfterSomeParts bench (take held input.now) × (held ≤ length input.now) }
     ensures { MayEndWithoutPart result bench }
 {
-    if let Part::Failed = part {
-        return Ended::NotRead;
-    }
-    if write_last(to, bench, input, held) {
-        return Ended::Whole;
-    }
-    Ended::NotWritten
+    let mut line = [0; 64];
+    let n = stream::last_line(&mut line, bench, held);
+    write_lines(to, &line[..n])
 }
 
-// What is handed back, of these parts.
-fn hand_back(ended: Ended, received: u64, bench: Bench, held: usize) -> Recorded
-    ensures { result ≡ record { ended = ended; received = received; bench = bench; held = held } }
+// Reads part after part and writes the lines of each as it comes.
+fn run<R: Read>(
+    from: &mut R,
+    to: i32,
+    most: usize,
+    input: &mut [u8],
+    lines: &mut [u8],
+    recorded: &mut Recorded,
+) -> Result<(), RecordError>
+    requires room { (longest_table ≤ length input.old) × (length input.old < 2 ^ 16) × (90 + 15 * length input.old ≤ length lines.old) }
+    requires begun { (recorded.old.received ≡ 0) × (recorded.old.bench ≡ unread) × (recorded.old.held ≡ 0) }
+    ensures { Records (record recorded.new { ended = result }) input.new lines.old lines.new }
 {
-    Recorded {
-        ended,
-        received,
-        bench,
-        held,
-    }
-}
-
-// Reads part after part and writes the lines of each as it comes. A proved loop has to end: this one does after 2^64 - 2^16 bytes.
-fn run<R: Read>(from: &mut R, to: i32, most: usize, input: &mut [u8], lines: &mut [u8]) -> Recorded
-    requires { (longest_table ≤ length input.old) × (length input.old < 2 ^ 16) × (90 + 15 * length input.old ≤ length lines.old) }
-    ensures { Records result input.new lines.old lines.new }
-{
-    let mut bench = stream::unread();
-    let mut held = 0;
-    let mut received: u64 = 0;
-    while received < 18446744073709486080 {
-        let part = read_part(from, most, input, held);
-        let Part::Bytes(count) = part else {
-            let ended = end_record(to, part, bench, input, held);
-            return hand_back(ended, received, bench, held);
+    while recorded.received < MOST_BYTES {
+        let Some(count) = read_part(from, most, input, recorded.held)? else {
+            return write_last(to, recorded.bench, input, recorded.held);
         };
-        received += count as u64;
-        let fed = feed(bench, input, held + count, lines);
-        let next = fed.bench;
-        bench = next;
-        held = fed.held;
-        if !write_lines(to, lines, fed.laid) {
-            return hand_back(Ended::NotWritten, received, bench, held);
-        }
-        if bench.refusal > 1 {
-            return hand_back(Ended::Whole, received, bench, held);
+        let laid = feed(recorded, input, count, lines);
+        write_lines(to, &lines[..laid])?;
+        if recorded.bench.refusal > 1 {
+            return Ok(());
         }
     }
-    hand_back(Ended::TooLong, received, bench, held)
-}
-
-// What is said of the end: 0 nothing, 1 that the input cannot be read, 2 that the record cannot be written.
-fn failure_of(ended: Ended) -> u8
-    ensures { result ≡ failure_of ended }
-{
-    match ended {
-        Ended::Whole => 0,
-        Ended::NotRead => 1,
-        Ended::NotWritten => 2,
-        Ended::TooLong => 1,
-    }
-}
-
-// Says in one line why the record is not whole.
-fn report(errors: i32, ended: Ended) {
-    let failure = failure_of(ended);
-    if failure == 1 {
-        io::write_all(errors, b"bench: the input cannot be read\n");
-    }
-    if failure == 2 {
-        io::write_all(errors, b"bench: the record cannot be written\n");
-    }
+    Err(RecordError::TooLong)
 }
 
 // Writes the record of what comes on `from`, at most so many bytes at a time (and at least one), to `to`: after each read the lines that
@@ -205,9 +165,16 @@ pub fn write_record<R: Read>(
 ) -> Recorded
     ensures { Records result input.new lines.old lines.new }
 {
-    let recorded = run(from, to, most, input, lines);
-    let ended = recorded.ended;
-    report(errors, ended);
+    let mut recorded = Recorded {
+        ended: Ok(()),
+        received: 0,
+        bench: stream::unread(),
+        held: 0,
+    };
+    recorded.ended = run(from, to, most, input, lines, &mut recorded);
+    if let Err(error) = recorded.ended {
+        io::write_all(errors, error.line());
+    }
     recorded
 }
 

@@ -1,5 +1,5 @@
 // The test whether a state is well formed: refusal 8.
-#![tactic(auto)]
+#![tactic(auto, using(crate::proofs::Starts::every_none, crate::proofs::Starts::unions_none))]
 
 ghost use Rattle.std.specs.Prelude.{◌≡◌, ◌&&◌, eqb, length};
 ghost use Rattle.state.specs.State.{most_jobs, most_objects, mark_words};

@@ -1,27 +1,39 @@
 -- `loader::write_parts` meets its contract: a turn makes one part more, which the generator does not refuse.
 -- Assumes nothing.
-use Rattle.std.proofs.Common.{refl, arith}
-use Rattle.basics.specs.Choice.{clash}
-use Rattle.loader.specs.LoadingLaws.{after_none, made_room, after_made}
+use Rattle.std.proofs.Common.{ℕ, ◌+◌, refl, sym, subst, ◌∙◌, arith}
+use Rattle.generator.specs.Load.{made_of}
+use Rattle.loader.specs.Loading.{AfterParts}
+use Rattle.loader.specs.LoadingLaws.{after_none, seed_gone_on, made_room, after_made}
 use Rattle.loader.proofs.write_parts.Goals as goal
 
-pub loop-made-init : goal.loop-made-init
-loop-made-init c = (omega arith, c.requires.1, after_none _ _ _ _)
+pub loop-loaded-init : goal.loop-loaded-init
+loop-loaded-init c =
+    record { within = omega arith; size = c.requires.1; after_parts = rw c.requires.2 (after_none _ _ _ _); held = refl }
 
-pub returns-then-not-write_all : goal.returns-then-not-write_all
-returns-then-not-write_all c =
+pub returns-then-not-write_all-clause-parts : goal.returns-then-not-write_all-clause-parts
+returns-then-not-write_all-clause-parts c =
+    let done = c.loop-loaded.invariant in
     record {
       after_parts =
-          after_made c.args.state c.args.seed c.args.count c.loop-made.made c.loop-made.next c.smaller-n.result c.args.events.now c.loop-made.events _
-          c.make_events-part.result c.requires.0 c.loop-made.invariant.1 c.loop-made-test.true c.smaller-n.ensures c.make_events-part.ensures c.loop-made.invariant.2;
-      whole = λ e. absurd (clash refl e);
+          subst (λ (next : ℕ). AfterParts c.args.state.counts c.args.loaded.now.seed c.args.count (c.loop-loaded.loaded.made + c.min-n.result) next c.args.events.now c.make_events-made.new.buf)
+          (sym (c.unwrap_or-loaded.ensures ∙ seed_gone_on c.loop-loaded.loaded.seed c.make_events-made.result))
+          (after_made c.args.state c.args.loaded.now.seed c.args.count c.loop-loaded.loaded.made c.loop-loaded.loaded.seed c.min-n.result c.args.events.now
+          c.loop-loaded.events _ (made_of c.loop-loaded.loaded.seed c.make_events-made.result) c.requires.0 done.size c.loop-loaded-test.true (omega arith) c.make_events-made.ensures done.after_parts);
+      whole = refl;
     }
 
-pub loop-made-preserved : goal.loop-made-preserved
-loop-made-preserved c = (
-  omega arith,
-  made_room c.args.state c.args.seed c.args.count c.loop-made.made c.loop-made.next c.smaller-n.result c.args.events.now c.loop-made.events _
-      c.make_events-part.result c.requires.0 c.loop-made.invariant.1 c.loop-made-test.true c.smaller-n.ensures c.make_events-part.ensures,
-  after_made c.args.state c.args.seed c.args.count c.loop-made.made c.loop-made.next c.smaller-n.result c.args.events.now c.loop-made.events _
-      c.make_events-part.result c.requires.0 c.loop-made.invariant.1 c.loop-made-test.true c.smaller-n.ensures c.make_events-part.ensures c.loop-made.invariant.2,
-)
+pub loop-loaded-preserved : goal.loop-loaded-preserved
+loop-loaded-preserved c =
+    let done = c.loop-loaded.invariant in
+    record {
+      within = omega arith;
+      size =
+          made_room c.args.state c.args.loaded.now.seed c.args.count c.loop-loaded.loaded.made c.loop-loaded.loaded.seed c.min-n.result c.args.events.now
+          c.loop-loaded.events _ (made_of c.loop-loaded.loaded.seed c.make_events-made.result) c.requires.0 done.size c.loop-loaded-test.true (omega arith) c.make_events-made.ensures;
+      after_parts =
+          subst (λ (next : ℕ). AfterParts c.args.state.counts c.args.loaded.now.seed c.args.count (c.loop-loaded.loaded.made + c.min-n.result) next c.args.events.now c.make_events-made.new.buf)
+          (sym (c.unwrap_or-loaded.ensures ∙ seed_gone_on c.loop-loaded.loaded.seed c.make_events-made.result))
+          (after_made c.args.state c.args.loaded.now.seed c.args.count c.loop-loaded.loaded.made c.loop-loaded.loaded.seed c.min-n.result c.args.events.now
+          c.loop-loaded.events _ (made_of c.loop-loaded.loaded.seed c.make_events-made.result) c.requires.0 done.size c.loop-loaded-test.true (omega arith) c.make_events-made.ensures done.after_parts);
+      held = done.held;
+    }

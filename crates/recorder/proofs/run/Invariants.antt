@@ -5,10 +5,14 @@ use Rattle.table_bytes.specs.Decided.{longest_table}
 use Rattle.recorder.specs.Recording.{AfterParts, most_bytes}
 use Rattle.recorder.proofs.run.Given as goal
 
-abbrev pub invariant-loop-received : goal.invariant-loop-received
-invariant-loop-received g l =
-    (l.held < longest_table) × (l.bench.events + l.held ≤ l.received) × (length l.input ≡ length l.fn.input)
-    × (length l.lines ≡ length l.fn.lines) × AfterParts l.bench (take l.held l.input) l.received l.fn.lines l.lines
+abbrev pub invariant-loop-recorded : goal.invariant-loop-recorded
+invariant-loop-recorded g l = record {
+  short : l.recorded.held < longest_table;
+  counted : l.recorded.bench.events + l.recorded.held ≤ l.recorded.received;
+  input_size : length l.input ≡ length l.fn.input;
+  lines_size : length l.lines ≡ length l.fn.lines;
+  after_parts : AfterParts l.recorded.bench (take l.recorded.held l.input) l.recorded.received l.fn.lines l.lines;
+}
 
-abbrev pub decreases-loop-received : goal.decreases-loop-received
-decreases-loop-received g l = most_bytes - l.received
+abbrev pub decreases-loop-recorded : goal.decreases-loop-recorded
+decreases-loop-recorded g l = most_bytes - l.recorded.received

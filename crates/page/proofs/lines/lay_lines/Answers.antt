@@ -1,14 +1,13 @@
 -- `page::lines::lay_lines` meets its contract. The loop's invariant: the lines of the ranks passed stand at the front, up to `end`, and the bytes behind are as
 -- they were. A turn lays the line of an active rank into the 21 bytes behind them.
 -- Assumes nothing.
-use mathlib.Core.Path.{◌≡◌, refl, sym, ap, ◌∙◌}
+use mathlib.Core.Path.{◌≡◌, sym, ap, ◌∙◌}
 use mathlib.Core.Bool.{true}
 use mathlib.Core.List.{List, ◌++◌}
 use Prim.Native.Nat.{ℕ, ◌≤◌, ◌<◌, ◌-◌, ◌+◌}
 use native.Mathlib.Omega.{arith}
 use lib.ListN.{length, take, drop, length-append}
 use Rattle.basics.specs.Arrays.{at}
-use Rattle.basics.specs.Loops.{joined}
 use Rattle.ranks.specs.Ranks.{member}
 use Rattle.state.specs.State.{most_processors}
 use Rattle.state.specs.Clauses.{Within}
@@ -55,37 +54,33 @@ module _ (p : Parts) (named running buffer : List ℕ) (n : ℕ) (within : Withi
   pub stops : (end : ℕ) → end ≡ length (lines n) → end + 21 ≡ length (lines (n + 1))
   stops end e = omega (arith, e, both)
 
-pub loop-before-init : goal.loop-before-init
-unfolding lines_by joined
-loop-before-init c = (search rules, refl, refl, refl)
-
 pub slice_bounds-lay_rank-end : goal.slice_bounds-lay_rank-end
 slice_bounds-lay_rank-end c =
     let a = c.args in
     let active = sym c.contains.ensures ∙ c.if-contains.true in
-    let fits = room a.parts.now a.named.now a.running.now a.buf.now c.loop-before.before c.requires.0 c.requires.1 c.requires.2 c.loop-before-test.true active in
-    omega (arith, fits, c.loop-before.invariant.1, c.loop-before.invariant.2)
+    let fits = room a.parts.now a.named.now a.running.now a.buf.now c.loop-i.i c.requires.0 c.requires.1 c.requires.2 (omega arith) active in
+    omega (arith, fits, c.loop-i.invariant.1, c.loop-i.invariant.2)
 
-pub loop-before-preserved : goal.loop-before-preserved
-loop-before-preserved c = elim c.if-contains.branch [
+pub loop-i-preserved : goal.loop-i-preserved
+loop-i-preserved c = elim c.if-contains.branch [
   | then-contains w ↦
       let a = c.args in
-      let n = c.loop-before.before in
+      let n = c.loop-i.i in
       let active = sym c.contains.ensures ∙ w.if-contains.true in
-      let stands = w.buf-is ∙ laid a.parts.now a.named.now a.running.now a.buf.now n c.requires.0 c.requires.1 c.requires.2 c.loop-before-test.true active
-      c.loop-before.end c.loop-before.buf w.lay_rank.new.line c.loop-before.invariant.2 c.loop-before.invariant.3 w.lay_rank.ensures in (
+      let stands = w.buf-is ∙ laid a.parts.now a.named.now a.running.now a.buf.now n c.requires.0 c.requires.1 c.requires.2 (omega arith) active
+      c.loop-i.end c.loop-i.buf w.lay_rank.new.line c.loop-i.invariant.2 c.loop-i.invariant.3 w.lay_rank.ensures in (
         search rules,
-        c.if-contains.auto.buf ∙ c.loop-before.invariant.1,
-        w.end-is ∙ stops a.parts.now a.named.now a.running.now a.buf.now n c.requires.0 c.requires.1 c.requires.2 c.loop-before-test.true active c.loop-before.end c.loop-before.invariant.2,
+        c.if-contains.auto.buf ∙ c.loop-i.invariant.1,
+        w.end-is ∙ stops a.parts.now a.named.now a.running.now a.buf.now n c.requires.0 c.requires.1 c.requires.2 (omega arith) active c.loop-i.end c.loop-i.invariant.2,
         stands,
       )
   | else-contains w ↦
       let p = c.args.parts.now in
-      let same = sym (lines_same p.counts.jobs c.args.named.now c.args.running.now p.processor_of.now p.active p.sleeping p.request.now c.loop-before.before
+      let same = sym (lines_same p.counts.jobs c.args.named.now c.args.running.now p.processor_of.now p.active p.sleeping p.request.now c.loop-i.i
       (sym c.contains.ensures ∙ w.if-contains.false)) in (
         search rules,
-        c.if-contains.auto.buf ∙ c.loop-before.invariant.1,
-        w.end-is ∙ c.loop-before.invariant.2 ∙ ap length same,
-        w.buf-is ∙ c.loop-before.invariant.3 ∙ ap (λ (text : List ℕ). at_front text c.args.buf.now) same,
+        c.if-contains.auto.buf ∙ c.loop-i.invariant.1,
+        w.end-is ∙ c.loop-i.invariant.2 ∙ ap length same,
+        w.buf-is ∙ c.loop-i.invariant.3 ∙ ap (λ (text : List ℕ). at_front text c.args.buf.now) same,
       )
 ]

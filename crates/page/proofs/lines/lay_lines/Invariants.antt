@@ -8,8 +8,8 @@ use Rattle.decimals.specs.Laid.{at_front}
 use Rattle.page.specs.Parts.{lines_by}
 use Rattle.page.proofs.lines.lay_lines.Given as goal
 
-abbrev pub invariant-loop-before : goal.invariant-loop-before
-invariant-loop-before l =
-    (l.before ≤ l.parts.counts.jobs) × (length l.buf ≡ length l.initial.buf)
-    × (l.end ≡ length (lines_by l.before l.parts.counts.jobs l.named l.running l.parts.processor_of.now l.parts.active l.parts.sleeping l.parts.request.now))
-    × (l.buf ≡ at_front (lines_by l.before l.parts.counts.jobs l.named l.running l.parts.processor_of.now l.parts.active l.parts.sleeping l.parts.request.now) l.initial.buf)
+abbrev pub invariant-loop-i : goal.invariant-loop-i
+invariant-loop-i l =
+    (l.i ≤ l.parts.counts.jobs) × (length l.buf ≡ length l.initial.buf)
+    × (l.end ≡ length (lines_by l.i l.parts.counts.jobs l.named l.running l.parts.processor_of.now l.parts.active l.parts.sleeping l.parts.request.now))
+    × (l.buf ≡ at_front (lines_by l.i l.parts.counts.jobs l.named l.running l.parts.processor_of.now l.parts.active l.parts.sleeping l.parts.request.now) l.initial.buf)

@@ -1,8 +1,7 @@
 -- `questions::parts::ask_named_lock` meets its contract: refused with its number, or what the rule gives.
 -- Assumes nothing.
-use Rattle.std.specs.Prelude.{◌≡◌, ℕ, Err}
-use Rattle.std.proofs.Common.{sym, ap, ap₂, ◌∙◌, arith}
-use Rattle.std.proofs.lemmas.Result.{err_from_is_err_and}
+use Rattle.std.specs.Prelude.{◌≡◌, ℕ}
+use Rattle.std.proofs.Common.{sym, ap, ap₂, ◌∙◌, arith, eq-eqb}
 use Rattle.basics.specs.Arrays.{at_index}
 use Rattle.state.specs.Lent.{state_in}
 use Rattle.state.specs.State.{request_of}
@@ -12,19 +11,14 @@ use Rattle.weights.specs.Keys.{key_holder, key_object, others_key, object_key, l
 use Rattle.one_holder.specs.OneHolder.{holder_key}
 use Rattle.rule.specs.Granting.{named_key, named_key_of}
 use Rattle.rule.specs.Decided.{named_decided}
-use Rattle.refusals.specs.Accepting.{asking}
+use Rattle.refusals.specs.Refusals.{job_refusal}
 use Rattle.questions.specs.Answers.{NamedAnswer}
+use Rattle.questions.specs.Questions.{ask_named_lock}
 use Rattle.questions.proofs.Asked as A
 use Rattle.questions.proofs.parts.ask_named_lock.Goals as goal
 
 pub job_refusal-requires : goal.job_refusal-requires
-job_refusal-requires c = λ w. (asking (state_in c.args.parts.now) (sym c.fits_sized.ensures.0 ∙ w)).jobs_fit
-
-pub returns-in_err-job_refusal : goal.returns-in_err-job_refusal
-returns-in_err-job_refusal c =
-    let p = err_from_is_err_and c.from_residual.result c.from_residual.ensures.1 in
-    A.named_refused (state_in c.args.parts.now) c.fits_sized.result c.fits_sized.ensures c.args.rank c.in_err-job_refusal.field-0.0 c.from_residual.result
-    c.in_err-job_refusal.ensures (p.1 ∙ ap Err p.2)
+job_refusal-requires c = A.jobs_known (state_in c.args.parts.now) c.fits_sized.result c.fits_sized.ensures
 
 pub deciding_key-key-requires : goal.deciding_key-key-requires
 deciding_key-key-requires c =
@@ -37,7 +31,7 @@ bounds-parts-rank c =
     omega (arith, known.1, known.2)
 
 pub returns : goal.returns
-unfolding lowest_key_by object_key others_key holder_key weight named_key
+unfolding lowest_key_by object_key others_key holder_key weight named_key ask_named_lock
 returns c =
     let s = state_in c.args.parts.now in
     let r = c.args.rank in
@@ -46,4 +40,4 @@ returns c =
     c.named_key-named.ensures ∙ ap₂ (λ (q k : ℕ). named_key_of q k r) (sym (at_index s.request r known.1)) c.deciding_key-key.ensures
     ∙ named_decided s (held_facts s known.3) (request_of s r) r known.2 in
     ap₂ NamedAnswer.Lock (c.key_holder.ensures ∙ ap key_holder key) (c.key_object.ensures ∙ ap key_object key)
-    ∙ A.named_told s c.fits_sized.result c.fits_sized.ensures r c.in_ok-job_refusal.ensures
+    ∙ sym (simp (eq-eqb (job_refusal s r) 0 (sym (c.in_ok-job_refusal.ensures ∙ A.job_number s c.fits_sized.result c.fits_sized.ensures r))))

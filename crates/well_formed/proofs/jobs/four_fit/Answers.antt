@@ -2,10 +2,10 @@
 -- a turn tests one more, and leaves the loop with the first that fails.
 -- Assumes nothing.
 use Prim.Native.Nat.{◌+◌}
-use mathlib.Core.Path.{◌≡◌, refl, sym, ap, ◌∙◌}
+use mathlib.Core.Path.{◌≡◌, sym, ap, ◌∙◌}
 use native.Mathlib.Omega.{arith}
 use Rattle.basics.specs.Choice.{and_true}
-use Rattle.basics.specs.Loops.{every, every_more, every_false}
+use Rattle.basics.specs.Loops.{every_more, every_false}
 use Rattle.state.specs.Lent.{state_in}
 use Rattle.state.specs.WellFormed.{wait_fits}
 use Rattle.well_formed.specs.Survey.{with_marked}
@@ -15,10 +15,6 @@ use Rattle.well_formed.proofs.jobs.four_fit.Goals as goal
 pub returns-then-none_waits : goal.returns-then-none_waits
 returns-then-none_waits c =
     sym (none_wait (with_marked (state_in c.args.parts.now) c.args.marked) 4 c.args.from (sym c.none_waits.ensures ∙ c.if-none_waits.true))
-
-pub loop-k-init : goal.loop-k-init
-unfolding every
-loop-k-init c = refl
 
 pub returns-then-not-wait_fits : goal.returns-then-not-wait_fits
 returns-then-not-wait_fits c =

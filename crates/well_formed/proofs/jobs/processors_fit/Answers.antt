@@ -22,10 +22,6 @@ both_below a b n =
     (λ t. and_true (ltb a n) (ltb b n) (lt-ltb a n (omega (arith, ltb-true (max a b) n t))) (lt-ltb b n (omega (arith, ltb-true (max a b) n t))))
     (λ t. lt-ltb (max a b) n (omega (arith, ltb-true a n (and_left (ltb a n) (ltb b n) t), ltb-true b n (and_right (ltb a n) (ltb b n) t))))
 
-pub loop-i-init : goal.loop-i-init
-unfolding every
-loop-i-init c = lt-ltb 0 c.args.parts.now.counts.processors c.requires.0
-
 pub loop-i-preserved : goal.loop-i-preserved
 unfolding every
 loop-i-preserved c =

@@ -2,7 +2,7 @@
 -- a turn tests four more, and leaves the loop with the first four that fail.
 -- Assumes nothing.
 use Prim.Native.Nat.{ℕ, ◌+◌, ◌*◌}
-use mathlib.Core.Path.{◌≡◌, refl, sym, ap, ap₂, ◌∙◌}
+use mathlib.Core.Path.{◌≡◌, sym, ap, ap₂, ◌∙◌}
 use mathlib.Core.Bool.{◌&&◌}
 use native.Mathlib.Nat.{zero-add}
 use native.Mathlib.Omega.{arith}
@@ -19,10 +19,6 @@ unfolding waits_fit
 returns-then-none_waits c =
     let s = with_marked (state_in c.args.parts.now) c.args.marked in
     sym (none_wait s most_jobs 0 (sym c.none_waits.ensures ∙ c.if-none_waits.true)) ∙ (λ p. every most_jobs (λ r. wait_fits s (zero-add r p)))
-
-pub loop-four-init : goal.loop-four-init
-unfolding every
-loop-four-init c = refl
 
 pub returns-then-not-four_fit : goal.returns-then-not-four_fit
 unfolding waits_fit

@@ -2,20 +2,16 @@
 -- a turn joins what is wrong with one more.
 -- Assumes nothing.
 use Prim.Native.Nat.{suc, ◌+◌}
-use mathlib.Core.Path.{◌≡◌, refl, sym, ap, ap₂, ◌∙◌}
+use mathlib.Core.Path.{◌≡◌, sym, ap, ap₂, ◌∙◌}
 use mathlib.Core.Bool.{not, ◌&&◌}
 use native.Mathlib.Omega.{arith}
 use lib.Dec.{eqb}
-use Rattle.basics.specs.Loops.{every, every_more}
+use Rattle.basics.specs.Loops.{every_more}
 use Rattle.ranks.specs.Ranks.{is_empty}
 use Rattle.ranks.specs.UnionLaws.{empty_union}
 use Rattle.state.specs.Lent.{state_in}
 use Rattle.well_formed.specs.Survey.{object_in_order}
 use Rattle.well_formed.proofs.locks.block_wrong.Goals as goal
-
-pub loop-k-init : goal.loop-k-init
-unfolding every
-loop-k-init g c = refl
 
 pub loop-k-preserved : goal.loop-k-preserved
 loop-k-preserved g c =

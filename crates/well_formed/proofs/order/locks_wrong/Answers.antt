@@ -2,12 +2,12 @@
 -- invariant: the set is empty if and only if the holders on the first k objects of the block are in order; a turn joins those of one more that are not.
 -- Assumes nothing.
 use Prim.Native.Nat.{ℕ, suc, ◌+◌}
-use mathlib.Core.Path.{◌≡◌, refl, sym, ap, ap₂, ◌∙◌}
+use mathlib.Core.Path.{◌≡◌, sym, ap, ap₂, ◌∙◌}
 use mathlib.Core.Bool.{not, ◌&&◌}
 use native.Mathlib.Omega.{arith}
 use lib.Dec.{eqb}
 use Rattle.basics.specs.Arrays.{at}
-use Rattle.basics.specs.Loops.{every, every_more}
+use Rattle.basics.specs.Loops.{every_more}
 use Rattle.ranks.specs.Ranks.{is_empty, common, but_first}
 use Rattle.ranks.specs.UnionLaws.{empty_union}
 use Rattle.state.specs.Lent.{state_in}
@@ -21,10 +21,6 @@ returns-then-is_empty g c =
     let none = ap is_empty (sym (c.common.ensures ∙ ap₂ common c.union_of.ensures c.but_first-later.ensures)) ∙ sym c.is_empty.ensures ∙ c.if-is_empty.true in
     let weighs = weighs_by (not (eqb g.row.WRITING 0)) (state_in a.parts.now) in
     sym (first_alone_all block_size a.held (λ k. weighs (a.from + k)) (λ k. at a.locks.now (a.from + k)) none)
-
-pub loop-k-init : goal.loop-k-init
-unfolding every
-loop-k-init g c = refl
 
 pub loop-k-preserved : goal.loop-k-preserved
 loop-k-preserved g c =
