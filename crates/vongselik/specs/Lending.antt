@@ -1,4 +1,4 @@
--- What the table calls of the C interface answer and leave in lent memory: a refusal's number, or 0 and the values; a refusal leaves every lent byte as it was.
+-- What the C interface answers and leaves in lent memory: a refusal's number, or 0 and the values; a refusal leaves every lent byte as it was.
 -- Assumes nothing.
 use Rattle.std.specs.Prelude.{ℕ, ◌≡◌, eqb, if◌then◌else◌, Result, Ok, Err}
 use Rattle.std.proofs.Common.{eq-eqb, ne_eqb}
