@@ -48,13 +48,21 @@ pub fn act_packed(well: bool, state: &mut PartsMut, kind: u8, rank: u8, object: 
     pack(act_known(well, state, kind, rank, object))
 }
 
+// Whether the state with the parts is well formed, as `act_known` is to be told. In a frame of its own, which is gone when the event is answered.
+#[inline(never)]
+pub fn is_well_formed(state: &PartsMut) -> bool
+    ensures { Tested result (state_in_mut state.now) }
+{
+    fits_sized(&state.read())
+}
+
 // An event in any state: the test of the state, then the event.
 pub fn act(state: &mut PartsMut, kind: u8, rank: u8, object: u8) -> Answer
     ensures next { outcome result (state_in_mut state.new) ≡ step (state_in_mut state.old) kind rank object }
     ensures sized { Sized (state_in_mut state.old) }
     ensures same { SamePlaces state.old state.new }
 {
-    let well = fits_sized(&state.read());
+    let well = is_well_formed(state);
     act_known(well, state, kind, rank, object)
 }
 
@@ -81,7 +89,7 @@ pub fn act_each(state: &mut PartsMut, events: &[u8], answers: &mut [u32]) -> usi
     ensures same { SamePlaces state.old state.new }
 {
     let count = (events.len() / 3).min(answers.len());
-    let well = fits_sized(&state.read());
+    let well = is_well_formed(state);
     answer_each(well, state, &events[..3 * count], answers);
     count
 }

@@ -11,9 +11,8 @@ ghost use Rattle.decimals.specs.Laid.{Laid};
 ghost use Rattle.record.specs.Record.{event_lines};
 
 use lines::lay_event;
-use manager::act_known;
+use manager::{act_known, is_well_formed};
 use state::PartsMut;
-use well_formed::fits_sized;
 
 // An event on the parts of a state of which it is known whether it is well formed, in place, and its line laid at the index; answers the index behind it.
 fn lay_answered(
@@ -70,6 +69,6 @@ pub fn lay_events(state: &mut PartsMut, buf: &mut [u8], events: u64, bytes: &[u8
     ensures lines { Laid buf.old buf.new 0 result (15 * length bytes.now) (event_lines (state_in_mut state.old) events bytes.now) }
     ensures same { SamePlaces state.old state.new }
 {
-    let well = fits_sized(&state.read());
+    let well = is_well_formed(state);
     lay_each(well, state, buf, events, bytes)
 }

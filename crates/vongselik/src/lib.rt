@@ -15,10 +15,9 @@ mod loads;
 mod pages;
 mod tables;
 
-use manager::act_packed;
+use manager::{act_packed, is_well_formed};
 use ranks::RankSet;
 use state::{Counts, JobProcessors, JobRequests, ObjectMarks, PartsMut, Sets, SetsMut};
-use well_formed::fits_sized;
 
 // An event: its answer packed into a number that can be taken apart again, and the parts of the next state. A refusal, by 8 to 18 or 21, leaves every part as it was.
 #[unsafe(no_mangle)]
@@ -70,6 +69,6 @@ pub extern "C" fn vongselik_parts_event<'a>(
         certified,
         request,
     };
-    let well = fits_sized(&state.read());
+    let well = is_well_formed(&state);
     act_packed(well, &mut state, kind, rank, object)
 }
