@@ -8,15 +8,9 @@ ghost use Rattle.stream.specs.Parts.{unread, feed, Advances};
 ghost use Rattle.recorder.specs.declared.RecordError.{RecordError};
 ghost use Rattle.recorder.specs.Recording.{Feeds, AfterSomeParts, failure_of, failure_line, MayEndWithoutPart, Records};
 
-use descriptors::read_part;
+use descriptors::{STANDARD_ERROR, STANDARD_OUTPUT, read_part};
 use std::io::{Error, Input, Read};
 use stream::{Advanced, Bench};
-
-// The descriptor of standard output.
-const STANDARD_OUTPUT: i32 = 1;
-
-// The descriptor of standard error.
-const STANDARD_ERROR: i32 = 2;
 
 // Room for the bytes that are held and a part: more than the longest table has.
 pub type InputBuffer = [u8; 32768];
