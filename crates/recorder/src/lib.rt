@@ -19,7 +19,7 @@ pub type InputBuffer = [u8; 32768];
 pub type RecordBuffer = [u8; 491610];
 
 // So many bytes are read, and no part behind them: a proved loop has to end, and 64 bits count the events of these.
-const MOST_BYTES: u64 = 18446744073709486080;
+const MOST_BYTES: u64 = u64::MAX - u16::MAX as u64;
 
 // Why a record is not whole: a read failed, a write failed, or more events came than 64 bits count.
 #[derive(Clone, Copy)]
@@ -110,13 +110,13 @@ fn write_lines(to: i32, lines: &[u8]) -> Result<(), RecordError>
     }
 }
 
-// Writes the last line, where the first bytes of the input buffer were not used: those that some parts leave to this bench.
-fn write_last(to: i32, bench: Bench, input: &[u8], held: usize) -> Result<(), RecordError>
-    requires { AfterSomeParts bench (take held input.now) × (held ≤ length input.now) }
-    ensures { MayEndWithoutPart result bench }
+// Writes the last line, where the bytes held at the front of the input buffer were not used: those that some parts leave to this bench.
+fn write_last(to: i32, recorded: &Recorded, input: &[u8]) -> Result<(), RecordError>
+    requires { AfterSomeParts recorded.now.bench (take recorded.now.held input.now) × (recorded.now.held ≤ length input.now) }
+    ensures { MayEndWithoutPart result recorded.now.bench }
 {
     let mut line = [0; 64];
-    let n = stream::last_line(&mut line, bench, held);
+    let n = stream::last_line(&mut line, recorded.bench, recorded.held);
     write_lines(to, &line[..n])
 }
 
@@ -135,7 +135,7 @@ fn run<R: Read>(
 {
     while recorded.received < MOST_BYTES {
         let Some(count) = read_part(from, most, input, recorded.held)? else {
-            return write_last(to, recorded.bench, input, recorded.held);
+            return write_last(to, recorded, input);
         };
         let laid = feed(recorded, input, count, lines);
         write_lines(to, &lines[..laid])?;
