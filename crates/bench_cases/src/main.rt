@@ -3,15 +3,13 @@
 #![tactic(auto)]
 
 use arguments::argument;
+use descriptors::STANDARD_OUTPUT;
 use files::{Opened, open};
 use recorder::{InputBuffer, RecordBuffer, RecordError, Recorded};
 use std::env::Env;
 use std::fs::File;
 use std::os::fd::AsRawFd;
 use std::rt::Files;
-
-// The descriptor of standard output.
-const STANDARD_OUTPUT: i32 = 1;
 
 // What all runs share: the system and the two buffers.
 #[derive(Drop)]

@@ -1,4 +1,4 @@
-// Bytes read from a reader, behind those that are held.
+// The standard descriptors, and bytes read from a reader, behind those that are held.
 #![tactic(auto)]
 
 ghost use Rattle.std.specs.Prelude.{◌≡◌, ◌+◌, ◌<◌, min, max, length};
@@ -6,6 +6,12 @@ ghost use Rattle.descriptors.specs.Reading.{part_of, Came};
 
 use std::io;
 use std::io::Read;
+
+// The descriptor of standard output.
+pub const STANDARD_OUTPUT: i32 = 1;
+
+// The descriptor of standard error.
+pub const STANDARD_ERROR: i32 = 2;
 
 // What a read gave, by its answer: so many bytes, or none at the input's end.
 fn part_of(got: io::Result<usize>) -> io::Result<Option<usize>>

@@ -3,6 +3,7 @@
 #![tactic(auto)]
 
 use arguments::argument;
+use descriptors::STANDARD_OUTPUT;
 use files::{Opened, open};
 use loader::{EventBuffer, LoadError, Loaded, TableBuffer};
 use state::zero_state;
@@ -11,9 +12,6 @@ use std::fs::File;
 use std::io::Input;
 use std::os::fd::AsRawFd;
 use std::rt::Files;
-
-// The descriptor of standard output.
-const STANDARD_OUTPUT: i32 = 1;
 
 // What all runs share: the system and the two buffers.
 #[derive(Drop)]

@@ -9,17 +9,11 @@ ghost use Rattle.loader.specs.declared.LoadError.{LoadError};
 ghost use Rattle.loader.specs.Loading.{part_events, most_seed, most_count, ReadBytes, Parts, LoadsTexts, LoadsArguments};
 
 use arguments::{argument, number_in};
-use descriptors::read_part;
+use descriptors::{STANDARD_ERROR, STANDARD_OUTPUT, read_part};
 use state::{Refusal, State};
 use std::env::Env;
 use std::io::{Error, Input, Read};
 use table_bytes::table_refusal;
-
-// The descriptor of standard output.
-const STANDARD_OUTPUT: i32 = 1;
-
-// The descriptor of standard error.
-const STANDARD_ERROR: i32 = 2;
 
 // Room for the table: more than the longest has.
 pub type TableBuffer = [u8; 32768];

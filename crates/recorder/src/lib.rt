@@ -8,15 +8,9 @@ ghost use Rattle.stream.specs.Parts.{unread, feed, Advances};
 ghost use Rattle.recorder.specs.declared.RecordError.{RecordError};
 ghost use Rattle.recorder.specs.Recording.{Feeds, AfterSomeParts, failure_of, failure_line, MayEndWithoutPart, Records};
 
-use descriptors::read_part;
+use descriptors::{STANDARD_ERROR, STANDARD_OUTPUT, read_part};
 use std::io::{Error, Input, Read};
 use stream::{Advanced, Bench};
-
-// The descriptor of standard output.
-const STANDARD_OUTPUT: i32 = 1;
-
-// The descriptor of standard error.
-const STANDARD_ERROR: i32 = 2;
 
 // Room for the bytes that are held and a part: more than the longest table has.
 pub type InputBuffer = [u8; 32768];
@@ -25,7 +19,7 @@ pub type InputBuffer = [u8; 32768];
 pub type RecordBuffer = [u8; 491610];
 
 // So many bytes are read, and no part behind them: a proved loop has to end, and 64 bits count the events of these.
-const MOST_BYTES: u64 = 18446744073709486080;
+const MOST_BYTES: u64 = u64::MAX - u16::MAX as u64;
 
 // Why a record is not whole: a read failed, a write failed, or more events came than 64 bits count.
 #[derive(Clone, Copy)]
@@ -116,13 +110,13 @@ fn write_lines(to: i32, lines: &[u8]) -> Result<(), RecordError>
     }
 }
 
-// Writes the last line, where the first bytes of the input buffer were not used: those that some parts leave to this bench.
-fn write_last(to: i32, bench: Bench, input: &[u8], held: usize) -> Result<(), RecordError>
-    requires { AfterSomeParts bench (take held input.now) × (held ≤ length input.now) }
-    ensures { MayEndWithoutPart result bench }
+// Writes the last line, where the bytes held at the front of the input buffer were not used: those that some parts leave to this bench.
+fn write_last(to: i32, recorded: &Recorded, input: &[u8]) -> Result<(), RecordError>
+    requires { AfterSomeParts recorded.now.bench (take recorded.now.held input.now) × (recorded.now.held ≤ length input.now) }
+    ensures { MayEndWithoutPart result recorded.now.bench }
 {
     let mut line = [0; 64];
-    let n = stream::last_line(&mut line, bench, held);
+    let n = stream::last_line(&mut line, recorded.bench, recorded.held);
     write_lines(to, &line[..n])
 }
 
@@ -141,7 +135,7 @@ fn run<R: Read>(
 {
     while recorded.received < MOST_BYTES {
         let Some(count) = read_part(from, most, input, recorded.held)? else {
-            return write_last(to, recorded.bench, input, recorded.held);
+            return write_last(to, recorded, input);
         };
         let laid = feed(recorded, input, count, lines);
         write_lines(to, &lines[..laid])?;
