@@ -9,7 +9,7 @@ use crate::Answer;
 fn four_bytes(number: u8, a: u8, b: u8, c: u8) -> u32
     ensures { (result ≡ four_bytes number a b c) × (a < 256) × (b < 256) × (c < 256) }
 {
-    (number as u32) * 0x100_0000 + (a as u32) * 0x1_0000 + (b as u32) * 0x100 + (c as u32)
+    u32::from_be_bytes([number, a, b, c])
 }
 
 // The answer's number on top (1 granted, 2 waits, 3 done, 4 refused), then its values. It can be taken apart again.
