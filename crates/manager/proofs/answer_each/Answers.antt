@@ -14,8 +14,7 @@ pub loop-i-preserved : goal.loop-i-preserved
 loop-i-preserved c =
     let I = c.loop-i.invariant in
     let next : 3 * c.loop-i.i + 3 ≡ 3 * (c.loop-i.i + 1) = omega arith in
-    let s = state_in_mut c.args.state.now in
-    (
+    let s = state_in_mut c.args.state.now in (
       subst (λ (place : ℕ). Answered c.args.events.now c.args.well s (state_in_mut c.act_packed.new.state) c.args.answers.now (set c.loop-i.answers c.loop-i.i c.act_packed.result) place (c.loop-i.i + 1)) next
           (answered_more _ _ _ _ _ _ _ _ I.0 (omega arith) _ _ c.act_packed.ensures.next c.act_packed.ensures.answer),
       places_then I.1 c.act_packed.ensures.same,

@@ -15,8 +15,7 @@ loop-i-preserved c =
     let laid = c.lay_answered-end in
     let next : 3 * c.loop-i.i + 3 ≡ 3 * (c.loop-i.i + 1) = omega arith in
     let counted : a.events + c.loop-i.i + 1 ≡ a.events + (c.loop-i.i + 1) = omega arith in
-    let turn = run_turn _ _ _ _ _ _ _ _ _ _ I.0 (omega arith) _ _ _ laid.ensures.next laid.ensures.line in
-    (
+    let turn = run_turn _ _ _ _ _ _ _ _ _ _ I.0 (omega arith) _ _ _ laid.ensures.next laid.ensures.line in (
       subst (λ (place : ℕ). Run a.bytes.now a.well (state_in_mut a.state.now) (state_in_mut laid.new.state) a.events (a.events + (c.loop-i.i + 1)) a.buf.now laid.new.buf place laid.result) next
           (subst (λ (number : ℕ). Run a.bytes.now a.well (state_in_mut a.state.now) (state_in_mut laid.new.state) a.events number a.buf.now laid.new.buf (3 * c.loop-i.i + 3) laid.result) counted turn),
       places_then I.1 laid.ensures.same,
