@@ -24,8 +24,8 @@ const PART_EVENTS: usize = 21845;
 // Room for a part of the load.
 pub type EventBuffer = [u8; 65535];
 
-// Why a load is not whole: there are not two arguments; the seed or the count is no number that is wanted; a read failed; the table was refused by a
-// number; a write failed.
+// Why a load is not whole: there are not two arguments; the seed or the count is no number that is wanted; a read failed; the table was refused;
+// a write failed.
 #[derive(Clone, Copy)]
 pub enum LoadError {
     NotTwo,

@@ -36,7 +36,7 @@ up_to_is k l =
     ∙ ap (λ (n : ℕ). n / 2 ^ (64 - k)) (ones_split k (64 - k)) ∙ high (2 ^ k - 1) (64 - k) (ones_lt (64 - k))
 
 -- below 1 the difference wraps, to a word of ones
-pub less_one_is : (set d : ℕ) → d < 2 ^ 64 → (d + 1) % 2 ^ 64 ≡ set → d ≡ less_one set
+pub less_one_is : (set : ℕ) → set < 2 ^ 64 → (set + (2 ^ 64 - 1)) % 2 ^ 64 ≡ less_one set
 unfolding less_one
-less_one_is zero d l e = omega arith
-less_one_is (suc n) d l e = omega arith
+less_one_is zero l = omega arith
+less_one_is (suc n) l = omega arith

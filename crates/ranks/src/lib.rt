@@ -87,7 +87,7 @@ pub fn minus(a: RankSet, b: RankSet) -> RankSet
 pub fn less_one(set: RankSet) -> RankSet
     ensures { result ≡ R.less_one set }
 {
-    std::num::wrapping_sub_u64(set, 1)
+    set.wrapping_sub(1)
 }
 
 // The ranks before the set's first; all ranks where it is empty.

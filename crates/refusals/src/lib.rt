@@ -182,8 +182,8 @@ fn certified_between(parts: &Parts, from: usize, last: usize, rank: u8) -> bool
     })
 }
 
-// Whether each of eight objects behind the first so many, those of the table, that the rank writes is certified. Their writers are looked at together, and one by
-// one only where the rank is among them.
+// Whether each of eight objects behind the first so many, those of the table, that the rank writes is certified. Their writers are looked at together,
+// and one by one only where the rank is among them.
 fn eight_certified(parts: &Parts, from: usize, rank: u8) -> bool
     requires { (from ≤ parts.now.counts.objects) × (parts.now.counts.objects ≤ most_objects) × (from + 8 ≤ most_objects) × (1 ≤ rank) × (rank ≤ most_jobs) }
     ensures { result ≡ every (min (from + 8) parts.now.counts.objects - from) (λ k. P.written_well parts.now.writers.now parts.now.certified.now rank (from + k)) }

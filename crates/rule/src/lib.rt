@@ -113,7 +113,8 @@ fn next_waiting(request: &JobRequests, rank: u8, jobs: u8) -> u8
     0
 }
 
-// The most urgent waiting rank whose request passes, and 0 where none does. The locks of the most urgent holder decide; which objects they are on is gathered once.
+// The most urgent waiting rank whose request passes, and 0 where none does. The locks of the most urgent holder decide; which objects they are on
+// is gathered once.
 fn search(parts: &Parts) -> u8
     requires { (parts.now.counts.jobs ≤ most_jobs) × HolderFacts (state_in parts.now) }
     ensures { result ≡ G.wakeable (state_in parts.now) }

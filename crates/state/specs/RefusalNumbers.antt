@@ -36,9 +36,9 @@ number V.NotCertified = 25
 number V.JobAsleep = 26
 number V.JobAwake = 27
 
--- the number of the refusal, 0 where there is none
-abbrev pub refusal_number : Result Unit Refusal → ℕ
-refusal_number (Ok _) = 0
+-- the number of the refusal, 0 where there is a value
+abbrev pub refusal_number : {T : Type 0} → Result T Refusal → ℕ
+refusal_number (Ok value) = 0
 refusal_number (Err refusal) = number refusal
 
 -- the number and the value of what a writer answers: 01, "Table bytes": it "answers its length"; 02, CR 2: "the answer is the page's length". The promises are

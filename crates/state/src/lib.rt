@@ -14,7 +14,7 @@ pub use limits::{counts_within, is_version, within};
 pub use marks::{is_marked, shares_with_none, weighing};
 pub use parts::{none_waits, of_mode, union_of};
 use ranks::RankSet;
-pub use refusal::{Refusal, refusal_number};
+pub use refusal::Refusal;
 
 // A table's version, and how many processors, jobs and objects it has.
 #[derive(Clone, Copy)]

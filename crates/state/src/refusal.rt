@@ -3,7 +3,7 @@ ghost use Rattle.std.specs.Prelude.{◌≡◌};
 ghost use Rattle.state.specs.RefusalNumbers as N;
 
 // Why a call is refused, in the order of the papers' numbers.
-#[derive(Clone, Copy, PartialEq, Eq)]
+#[derive(Clone, Copy)]
 pub enum Refusal {
     TableCut = 1,
     NoTable = 2,
@@ -40,15 +40,5 @@ impl Refusal {
         ensures { result ≡ N.number self }
     {
         self as u8
-    }
-}
-
-// The number of the refusal, 0 where there is none.
-pub fn refusal_number(answer: Result<(), Refusal>) -> u8
-    ensures { result ≡ N.refusal_number answer }
-{
-    match answer {
-        Ok(()) => 0,
-        Err(refusal) => refusal.number(),
     }
 }

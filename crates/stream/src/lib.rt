@@ -4,13 +4,14 @@
 ghost use Rattle.std.specs.Prelude.{◌≡◌, ◌+◌, ◌*◌, ◌/◌, ◌-◌, ◌^◌, ◌≤◌, ◌<◌, min, length};
 ghost use Rattle.decimals.specs.Laid.{Laid};
 ghost use Rattle.lines.specs.Lines.{LineLaid};
+ghost use Rattle.state.specs.RefusalNumbers.{number};
 ghost use Rattle.state.specs.State.{zero_state};
 ghost use Rattle.table.specs.Reading.{read_table};
 ghost use Rattle.stream.specs.Parts.{unread, opening_line, opening, answering, advance, most_lines, last_line_of, Advances};
 
 use lines::{LineBuffer, lay_end, lay_header, lay_refused, lay_short};
 use record::lay_events;
-use state::{PartsMut, State, zero_state};
+use state::{PartsMut, Refusal, State, zero_state};
 use table::TableRead;
 
 // How far the input is read. The refusal is 1 as long as the table may still be incomplete, 0 behind a table that was accepted, its
@@ -38,14 +39,14 @@ fn most_lines(room: usize, events: u64) -> usize
 }
 
 // Lays the line of a refused table, none as long as it may be incomplete. Answers its length.
-fn lay_refusal(lines: &mut [u8], refusal: u8) -> usize
-    requires { (45 ≤ length lines.old) × (1 ≤ refusal) }
-    ensures { Laid lines.old lines.new 0 result 45 (opening_line refusal zero_state.counts) }
+fn lay_refusal(lines: &mut [u8], refusal: Refusal) -> usize
+    requires { 45 ≤ length lines.old }
+    ensures { Laid lines.old lines.new 0 result 45 (opening_line (number refusal) zero_state.counts) }
 {
-    if refusal == 1 {
-        return 0;
+    match refusal {
+        Refusal::TableCut => 0,
+        other => lay_refused(lines, other.number()),
     }
-    lay_refused(lines, refusal)
 }
 
 // A step before the table is decided.
@@ -64,7 +65,7 @@ fn open_table(bytes: &[u8], lines: &mut [u8]) -> Advanced
             },
         },
         Err(refusal) => Advanced {
-            laid: lay_refusal(lines, refusal.number()),
+            laid: lay_refusal(lines, refusal),
             used: 0,
             bench: Bench {
                 refusal: refusal.number(),

@@ -5,7 +5,6 @@ use Rattle.std.specs.Prelude.{ℕ, zero, suc, not, List, [], take, drop, eqb, if
 use Rattle.basics.specs.Choice.{◌if◌else◌, ◌or_else◌, between}
 use Rattle.basics.specs.Loops.{joined}
 use Rattle.state.specs.declared.refusal.Refusal.{Refusal}
-use Rattle.state.specs.RefusalNumbers.{number}
 use Rattle.table_bytes.specs.Bytes.{jobs_in, entry_rank, entry_start, entry_count}
 use Rattle.table_bytes.specs.Refusals.{table_refusal}
 
@@ -26,11 +25,7 @@ job_entries_refusal b rank = table_refusal b or_else (10 if not (between 1 (jobs
 unfoldable pub job_entries : List ℕ → ℕ → List ℕ
 job_entries b rank = if eqb (job_entries_refusal b rank) 0 then entries_of b rank else []
 
--- the part and the number of the code's answer
+-- the part of the code's answer
 abbrev pub part_of : Result (Bor (List ℕ)) Refusal → List ℕ
 part_of (Ok part) = part.now
 part_of (Err refusal) = []
-
-abbrev pub part_number : Result (Bor (List ℕ)) Refusal → ℕ
-part_number (Ok part) = 0
-part_number (Err refusal) = number refusal

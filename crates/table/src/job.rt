@@ -1,7 +1,7 @@
 // One job's entries, as a part of the table bytes.
 ghost use Rattle.std.specs.Prelude.{◌≡◌};
 ghost use Rattle.state.specs.RefusalNumbers.{refusal_number};
-ghost use Rattle.table.specs.JobEntries.{job_entries_refusal, job_entries, part_of, part_number};
+ghost use Rattle.table.specs.JobEntries.{job_entries_refusal, job_entries, part_of};
 
 use crate::accepted::Accepted;
 use state::{Refusal, within};
@@ -21,7 +21,7 @@ fn job_entries_refusal(bytes: &[u8], rank: u8) -> Result<(), Refusal>
 // The part of the table bytes that holds the entries of the job of the rank, empty if it has none.
 #[tactic(auto, using(table_bytes::specs::AcceptedTable::accepted_table, crate::specs::JobPart::job_accepted))]
 pub fn job_entries<'a>(bytes: &'a [u8], rank: u8) -> Result<&'a [u8], Refusal>
-    ensures { (part_of result ≡ job_entries bytes.now rank) × (part_number result ≡ job_entries_refusal bytes.now rank) }
+    ensures { (part_of result ≡ job_entries bytes.now rank) × (refusal_number result ≡ job_entries_refusal bytes.now rank) }
 {
     job_entries_refusal(bytes, rank)?;
     let table = Accepted { bytes };

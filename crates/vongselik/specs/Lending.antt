@@ -1,16 +1,9 @@
 -- What the C interface answers and leaves in lent memory: a refusal's number, or 0 and the values; a refusal leaves every lent byte as it was.
 -- Assumes nothing.
-use Rattle.std.specs.Prelude.{ℕ, ◌≡◌, eqb, if◌then◌else◌, Result, Ok, Err}
+use Rattle.std.specs.Prelude.{ℕ, ◌≡◌, eqb, if◌then◌else◌}
 use Rattle.std.proofs.Common.{eq-eqb, ne_eqb}
 use Rattle.state.specs.declared.State.{State}
-use Rattle.state.specs.declared.refusal.Refusal.{Refusal}
-use Rattle.state.specs.RefusalNumbers.{number}
 use Rattle.table.specs.Reading.{TableRead}
-
--- the refusal's number, 0 where there is a value
-abbrev pub number_of : {T : Type 0} → Result T Refusal → ℕ
-number_of (Ok value) = 0
-number_of (Err refusal) = number refusal
 
 -- ---- what a table read into a lent state leaves: the state and the used count of the table, or what was there before
 

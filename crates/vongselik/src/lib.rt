@@ -19,7 +19,8 @@ use manager::{act_packed, is_well_formed};
 use ranks::RankSet;
 use state::{Counts, JobProcessors, JobRequests, ObjectMarks, PartsMut, Sets, SetsMut};
 
-// An event: its answer packed into a number that can be taken apart again, and the parts of the next state. A refusal, by 8 to 18 or 21, leaves every part as it was.
+// An event: its answer packed into a number that can be taken apart again, and the parts of the next state. A refusal, by 8 to 18, 21 or 24 to 27,
+// leaves every part as it was.
 #[unsafe(no_mangle)]
 pub extern "C" fn vongselik_parts_event<'a>(
     version: u8,

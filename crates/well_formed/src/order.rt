@@ -53,8 +53,8 @@ fn locks_wrong<const WRITING: bool>(
     let mut wrong = EMPTY;
     for k in 0..8 {
         let i = from + k;
-        let later = reached_later(held, weighs_by::<WRITING>(parts, i));
-        wrong = union(wrong, ranks::common(locks[i], later));
+        let reached = reached_later(held, weighs_by::<WRITING>(parts, i));
+        wrong = union(wrong, ranks::common(locks[i], reached));
     }
     wrong
 }

@@ -5,4 +5,4 @@ use Rattle.ranks.proofs.Shifts.{less_one_is}
 use Rattle.ranks.proofs.less_one.Goals as goal
 
 pub returns : goal.returns
-returns c = less_one_is c.args.set c.wrapping_sub_u64.result (omega arith) c.wrapping_sub_u64.ensures.value
+returns c = less_one_is c.args.set (omega arith)

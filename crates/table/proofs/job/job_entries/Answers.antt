@@ -2,9 +2,10 @@
 -- in accepted bytes these are the rank's entries (`entries_together`). On a refusal the part is empty.
 -- Assumes nothing.
 use Rattle.std.proofs.Common.{◌≡◌, ◌-◌, ◌*◌, take, drop, arith, sym, ap, ◌∙◌, eq-eqb, ne_eqb}
+use Rattle.state.specs.RefusalNumbers.{refusal_number, number_positive}
 use Rattle.table_bytes.specs.AcceptedTable.{accepted_table}
-use Rattle.table_bytes.specs.Steps.{number_some, handed_on}
-use Rattle.table.specs.JobEntries.{job_entries_refusal, job_entries, part_of, part_number}
+use Rattle.table_bytes.specs.Steps.{handed_on}
+use Rattle.table.specs.JobEntries.{job_entries_refusal, job_entries, part_of}
 use Rattle.table.specs.JobPart.{job_accepted, entries_together}
 use Rattle.table.proofs.job.job_entries.Goals as goal
 
@@ -13,8 +14,8 @@ unfolding job_entries
 returns-in_err-job_entries_refusal c =
     let h = c.in_err-job_entries_refusal.ensures in
     let e = handed_on _ _ c.from_residual.ensures.1 in
-    let refused = ne_eqb (job_entries_refusal c.args.bytes.now c.args.rank) 0 (λ z. number_some _ (h ∙ z)) in
-    (ap part_of e ∙ sym (simp refused), ap part_number e ∙ h)
+    let refused = ne_eqb (job_entries_refusal c.args.bytes.now c.args.rank) 0 (λ z. number_positive _ (h ∙ z)) in
+    (ap part_of e ∙ sym (simp refused), ap refusal_number e ∙ h)
 
 pub returns : goal.returns
 unfolding job_entries

@@ -6,11 +6,11 @@ use Prim.Native.Nat.{ℕ, suc}
 use mathlib.Core.List.{List}
 use native.Mathlib.Omega.{arith}
 use native.Mathlib.Numerals.{add-one}
-use Rattle.state.specs.RefusalNumbers.{number, refusal_number}
+use Rattle.state.specs.RefusalNumbers.{number, refusal_number, number_positive}
 use Rattle.table_bytes.specs.declared.bytes.Entry.{Entry}
 use Rattle.table_bytes.specs.Bytes.{jobs_in, objects_in, entry_count, entry_rank, entry_object, entry_mode, order, order_before}
 use Rattle.table_bytes.specs.Refusals.{entry_refusal, entry_refusal_of, entries_refusal}
-use Rattle.table_bytes.specs.Steps.{number_some, handed_on}
+use Rattle.table_bytes.specs.Steps.{handed_on}
 use Rattle.basics.specs.Loops.{first_nonzero, first_nonzero_at, first_none_more}
 use Rattle.table_bytes.proofs.table_refusals.entries_refusal.Goals as goal
 
@@ -31,7 +31,7 @@ returns-in_err-entry_refusal c =
     let e = c.in_err-entry_refusal.field-0.0 in
     let own : number e ≡ entry_refusal_of b (suc i) = own-refusal b i _ _ _ c.loop-k.invariant.1 c.entry_at-entry.ensures c.in_err-entry_refusal.ensures in
     ap refusal_number (handed_on _ e c.from_residual.ensures.1) ∙ own
-    ∙ sym (first_nonzero_at i (entry_count b) (entry_refusal_of b) c.loop-k.invariant.2 (λ z. number_some e (own ∙ z)) (omega arith))
+    ∙ sym (first_nonzero_at i (entry_count b) (entry_refusal_of b) c.loop-k.invariant.2 (λ z. number_positive e (own ∙ z)) (omega arith))
 
 pub loop-k-preserved : goal.loop-k-preserved
 loop-k-preserved c =
