@@ -5,7 +5,7 @@ ghost use Rattle.std.specs.Prelude.{◌≡◌, ◌+◌, ◌≤◌};
 ghost use Rattle.basics.specs.Arrays.{at, put};
 ghost use Rattle.ranks.specs.Ranks as R;
 ghost use Rattle.state.specs.Lent.{SamePlaces, state_in_mut};
-ghost use Rattle.state.specs.State.{most_jobs, most_objects, with_locks, most_urgent_holder, mode_of_request, object_of_request, mark, grant_readers, grant_writers, grant_marks, release_readers, release_sets, kept_in, drop_marks};
+ghost use Rattle.state.specs.State.{most_jobs, most_objects, with_locks, most_urgent_holder, mark, grant_readers, grant_writers, grant_marks, release_readers, release_sets, kept_in, drop_marks};
 
 use ranks::RankSet;
 use state::{JobRequests, ObjectMarks, PartsMut, Sets, SetsMut, union_of};
@@ -104,20 +104,6 @@ pub fn drop_marks(marks: &mut ObjectMarks, writers: Sets, rank: u8)
     let low = kept_in(writers, marks[0], 0, rank);
     let high = kept_in(writers, marks[1], 64, rank);
     *marks = [low, high];
-}
-
-// The mode of a request.
-pub fn mode_of_request(request: u16) -> u8
-    ensures { result ≡ mode_of_request request }
-{
-    (request / 256) as u8
-}
-
-// The object of a request.
-pub fn object_of_request(request: u16) -> u8
-    ensures { result ≡ object_of_request request }
-{
-    (request % 256) as u8
 }
 
 // Stores the rank's request.

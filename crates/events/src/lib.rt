@@ -11,17 +11,14 @@ ghost use Rattle.events.specs.Events as E;
 
 mod packing;
 
-use changes::{
-    drop_marks, grant, holder_of, mode_of_request, object_of_request, release, release_sets,
-    store_request,
-};
+use changes::{drop_marks, grant, holder_of, release, release_sets, store_request};
 use one_holder::deciding_key;
 pub use packing::pack;
 use refusals::{
     certify_refusal, finish_refusal, lock_refusal, set_of, sleep_refusal, start_refusal,
     unlock_refusal,
 };
-use state::{PartsMut, Refusal, State, shares_with_none};
+use state::{PartsMut, Refusal, State, mode_of_request, object_of_request, shares_with_none};
 
 // An event's answer: granted; waits for the lock of a holder on an object, with the reason; done, with the woken rank or 0; refused, with its number.
 #[derive(Clone, Copy)]

@@ -7,6 +7,7 @@ mod limits;
 mod marks;
 mod parts;
 mod refusal;
+mod requests;
 
 pub use fresh::{fresh_state, zero_state};
 pub use lent::{Parts, PartsMut};
@@ -15,6 +16,7 @@ pub use marks::{is_marked, shares_with_none, weighing};
 pub use parts::{none_waits, of_mode, union_of};
 use ranks::RankSet;
 pub use refusal::Refusal;
+pub use requests::{mode_of_request, object_of_request};
 
 // A table's version, and how many processors, jobs and objects it has.
 #[derive(Clone, Copy)]

@@ -7,7 +7,7 @@ ghost use Rattle.state.specs.WellFormed.{processors_fit, may_await, wait_fits, w
 ghost use Rattle.well_formed.specs.Survey.{may_ask, with_marked};
 
 use ranks::RankSet;
-use state::{Parts, is_marked, none_waits, of_mode, within};
+use state::{Parts, is_marked, mode_of_request, none_waits, object_of_request, of_mode, within};
 
 // Whether each job's processor is one of the table's.
 pub fn processors_fit(parts: &Parts) -> bool
@@ -48,8 +48,8 @@ fn may_await(parts: &Parts, marked: RankSet, request: u16, rank: u8) -> bool
     requires { (parts.now.counts.version ≤ 2) × (parts.now.counts.objects ≤ most_objects) × (1 ≤ rank) × (rank ≤ most_jobs) }
     ensures { result ≡ may_await (with_marked (state_in parts.now) marked) (mode_of_request request) rank (object_of_request request) }
 {
-    let mode = (request / 256) as u8;
-    let object = (request % 256) as u8;
+    let mode = mode_of_request(request);
+    let object = object_of_request(request);
     if !(within(1, parts.counts.version + 1, mode) & within(1, parts.counts.objects, object)) {
         return false;
     }
