@@ -2,7 +2,8 @@
 #![tactic(auto)]
 
 ghost use Rattle.std.specs.Prelude.{◌≡◌, ◌≤◌};
-ghost use Rattle.state.specs.State.{most_jobs, most_objects, certify};
+ghost use Rattle.state.specs.State.{most_jobs, most_objects, certify, with_sleepers};
+ghost use Rattle.state.specs.declared.State.{State};
 ghost use Rattle.state.specs.Lent.{state_in_mut, SamePlaces};
 ghost use Rattle.state.specs.Holders.{HolderFacts};
 ghost use Rattle.refusals.specs.Accepting.{RequestsFit, InRange};
@@ -14,6 +15,7 @@ mod packing;
 use changes::{drop_marks, grant, holder_of, release, release_sets, store_request};
 use one_holder::deciding_key;
 pub use packing::pack;
+use ranks::RankSet;
 use refusals::{
     certify_refusal, finish_refusal, lock_refusal, set_of, sleep_refusal, start_refusal,
     unlock_refusal,
@@ -161,20 +163,28 @@ fn finish(state: &mut PartsMut, kind: u8, rank: u8, object: u8) -> Result<Answer
     Ok(end_run(state, rank))
 }
 
-// Kinds 8 and 9: the job falls asleep, or is awakened. No lock moves, and the waiting jobs are not searched.
-fn sleep_or_awaken(state: &mut PartsMut, kind: u8, rank: u8, object: u8) -> Result<Answer, Refusal>
+// An event of kind 8 or 9 that is not refused: the job falls asleep, or is awakened. No lock moves, and the waiting jobs are not searched.
+fn sleep_or_awaken(sleeping: &mut RankSet, kind: u8, rank: u8) -> Answer
+    requires { (1 ≤ rank) × (rank ≤ most_jobs) }
+    ensures { (s : State) → s.sleeping ≡ sleeping.old → E.outcome result (with_sleepers s sleeping.new) ≡ E.sleep_or_awaken s kind rank }
+{
+    let asleep = *sleeping;
+    if kind == 8 {
+        *sleeping = ranks::with(asleep, rank);
+    } else {
+        *sleeping = ranks::without(asleep, rank);
+    }
+    Answer::Done(0)
+}
+
+// Kinds 8 and 9: the job falls asleep, or is awakened.
+fn sleep(state: &mut PartsMut, kind: u8, rank: u8, object: u8) -> Result<Answer, Refusal>
     requires { (state.old.counts.jobs ≤ most_jobs) × (8 ≤ kind) × (kind ≤ 9) }
     ensures next { E.outcome (answer_of result) (state_in_mut state.new) ≡ E.perform (state_in_mut state.old) kind rank object }
     ensures same { SamePlaces state.old state.new }
 {
     sleep_refusal(&state.read(), kind, rank, object)?;
-    let asleep = *state.sleeping;
-    if kind == 8 {
-        *state.sleeping = ranks::with(asleep, rank);
-    } else {
-        *state.sleeping = ranks::without(asleep, rank);
-    }
-    Ok(Answer::Done(0))
+    Ok(sleep_or_awaken(state.sleeping, kind, rank))
 }
 
 // The answer, refused or not.
@@ -199,7 +209,7 @@ pub fn perform(state: &mut PartsMut, kind: u8, rank: u8, object: u8) -> Answer
         4 => unlock(state, rank, object),
         5 | 6 => finish(state, kind, rank, object),
         7 => certify(state, rank, object),
-        8 | 9 => sleep_or_awaken(state, kind, rank, object),
+        8 | 9 => sleep(state, kind, rank, object),
         0 | 10..=255 => Err(Refusal::NoSuchKind),
     })
 }

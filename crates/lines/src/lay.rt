@@ -23,6 +23,9 @@ pub fn lay_field(buf: &mut [u8], at: usize, number: u8) -> usize
 pub fn kind_letter(version: u8, kind: u8) -> u8
     ensures { result ≡ kind_letter version kind }
 {
+    if (version == 1) & (kind == 7) {
+        return b'?';
+    }
     match kind {
         1 => b'S',
         2 => b'R',
@@ -30,7 +33,6 @@ pub fn kind_letter(version: u8, kind: u8) -> u8
         4 => b'U',
         5 => b'F',
         6 => b'A',
-        7 if version == 1 => b'?',
         7 => b'C',
         8 => b'Z',
         9 => b'V',

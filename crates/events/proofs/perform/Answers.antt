@@ -29,7 +29,7 @@ returns-clause-next c =
       | in-7 w ↦ (let is : 7 ≡ a.kind = omega (arith, w.in-7) in (λ i. E.outcome (answer_of (w.answer_of-is i)) (state_in_mut (w.state-is i))) ∙ w.certify.ensures.next ∙ ap by is)
       | in-2 w ↦ (λ i. E.outcome (answer_of (w.answer_of-is i)) (state_in_mut (w.state-is i))) ∙ w.lock.ensures.next
       | in-5 w ↦ (λ i. E.outcome (answer_of (w.answer_of-is i)) (state_in_mut (w.state-is i))) ∙ w.finish.ensures.next
-      | in-8 w ↦ (λ i. E.outcome (answer_of (w.answer_of-is i)) (state_in_mut (w.state-is i))) ∙ w.sleep_or_awaken.ensures.next
+      | in-8 w ↦ (λ i. E.outcome (answer_of (w.answer_of-is i)) (state_in_mut (w.state-is i))) ∙ w.sleep.ensures.next
       | in-0 w ↦ (let is : a.kind ≡ 0 = omega (arith, w.in-0) in (λ i. E.outcome (answer_of (w.answer_of-is i)) (state_in_mut (w.state-is i))) ∙ L.perform_unknown s a.kind a.rank a.object (ap (between 1 9) is))
       | in-0-2 w ↦ (λ i. E.outcome (answer_of (w.answer_of-is i)) (state_in_mut (w.state-is i))) ∙ L.perform_unknown s a.kind a.rank a.object (beyond a.kind (omega (arith, w.in-0)))
     ]
