@@ -12,7 +12,7 @@ ghost use Rattle.inheritance.specs.Inheriting as I;
 use one_holder::{holder_key, key_against};
 use ranks::RankSet;
 use rule::named_key;
-use state::Parts;
+use state::{JobProcessors, JobRequests, Parts};
 use weights::NO_KEY;
 
 // A lock for each rank, by its key without the weight; 0 for no lock.
@@ -99,21 +99,21 @@ fn ready_key(jobs: u8, named: &JobLocks, ready: bool, rank: u8) -> u64
 }
 
 // The ready rank of the processor with the most urgent inherited rank, by the ranks that are awake and the lock that each rank names; 0 where none is ready.
-pub fn running_by(parts: &Parts, named: &JobLocks, awake: RankSet, processor: u8) -> u8
-    requires { parts.now.counts.jobs ≤ most_jobs }
-    ensures { result ≡ I.running_by parts.now.counts.jobs named.now parts.now.processor_of.now awake parts.now.request.now processor }
+pub fn running_by(
+    jobs: u8,
+    named: &JobLocks,
+    processor_of: &JobProcessors,
+    awake: RankSet,
+    request: &JobRequests,
+    processor: u8,
+) -> u8
+    requires { jobs ≤ most_jobs }
+    ensures { result ≡ I.running_by jobs named.now processor_of.now awake request.now processor }
 {
-    let jobs = parts.counts.jobs;
     let mut lowest = NO_KEY;
     for i in 0..usize::from(jobs) {
         let rank = (i + 1) as u8;
-        let ready = is_ready(
-            parts.processor_of[i],
-            processor,
-            awake,
-            parts.request[i],
-            rank,
-        );
+        let ready = is_ready(processor_of[i], processor, awake, request[i], rank);
         lowest = lowest.min(ready_key(jobs, named, ready, rank));
     }
     (lowest % 256) as u8
@@ -125,5 +125,12 @@ pub fn running_rank(parts: &Parts, processor: u8) -> u8
     ensures { result ≡ R.running_rank (state_in parts.now) processor }
 {
     let awake = ranks::minus(parts.active, parts.sleeping);
-    running_by(parts, &named_locks(parts), awake, processor)
+    running_by(
+        parts.counts.jobs,
+        &named_locks(parts),
+        parts.processor_of,
+        awake,
+        parts.request,
+        processor,
+    )
 }

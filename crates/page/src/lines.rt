@@ -12,7 +12,7 @@ ghost use Rattle.page.specs.Parts.{RunsBy, ProcessorsFit, line_by, lines_by};
 use decimals::{lay_aligned, lay_byte, lay_letter, lay_three};
 use inheritance::{JobLocks, inherited_by, lock_holder, lock_object, running_by};
 use ranks::{RankSet, contains};
-use state::Parts;
+use state::{JobProcessors, JobRequests, Parts};
 
 // A rank for each processor.
 pub type ProcessorRanks = [u8; 8];
@@ -35,7 +35,14 @@ pub fn running_ranks(parts: &Parts, named: &JobLocks, awake: RankSet) -> Process
 {
     let mut running: ProcessorRanks = [0; 8];
     for processor in 0..parts.counts.processors {
-        running[processor as usize] = running_by(parts, named, awake, processor);
+        running[processor as usize] = running_by(
+            parts.counts.jobs,
+            named,
+            parts.processor_of,
+            awake,
+            parts.request,
+            processor,
+        );
     }
     running
 }
@@ -93,22 +100,30 @@ fn lay_line(line: &mut [u8], fields: Fields)
 
 // The rank's line, which fills the lent part.
 #[tactic(auto, using(basics::specs::Arrays::at_index), unfolding(crate::specs::Parts::line_by))]
-fn lay_rank(line: &mut [u8], parts: &Parts, named: &JobLocks, running: &ProcessorRanks, rank: u8)
-    requires { (length line.old ≡ 21) × (1 ≤ rank) × (rank ≤ most_jobs) × (parts.now.counts.jobs ≤ most_jobs)
-        × (at parts.now.processor_of.now rank < most_processors) }
-    ensures { line.new ≡ line_by parts.now.counts.jobs named.now running.now parts.now.processor_of.now parts.now.sleeping parts.now.request.now rank }
+fn lay_rank(
+    line: &mut [u8],
+    jobs: u8,
+    named: &JobLocks,
+    running: &ProcessorRanks,
+    processor_of: &JobProcessors,
+    sleeping: RankSet,
+    request: &JobRequests,
+    rank: u8,
+)
+    requires { (length line.old ≡ 21) × (1 ≤ rank) × (rank ≤ most_jobs) × (jobs ≤ most_jobs) × (at processor_of.now rank < most_processors) }
+    ensures { line.new ≡ line_by jobs named.now running.now processor_of.now sleeping request.now rank }
 {
     let i = (rank - 1) as usize;
-    let processor = parts.processor_of[i];
-    let sleeps = contains(parts.sleeping, rank);
+    let processor = processor_of[i];
+    let sleeps = contains(sleeping, rank);
     let lock = named[i];
     lay_line(
         line,
         Fields {
             rank,
             processor,
-            letter: state_letter(running[processor as usize], parts.request[i], sleeps, rank),
-            inherited: inherited_by(parts.counts.jobs, named, rank),
+            letter: state_letter(running[processor as usize], request[i], sleeps, rank),
+            inherited: inherited_by(jobs, named, rank),
             holder: lock_holder(lock),
             object: lock_object(lock),
         },
@@ -130,7 +145,16 @@ pub fn lay_lines(buf: &mut [u8], parts: &Parts, named: &JobLocks, running: &Proc
         if contains(parts.active, rank) {
             let start = end;
             end += 21;
-            lay_rank(&mut buf[start..end], parts, named, running, rank);
+            lay_rank(
+                &mut buf[start..end],
+                parts.counts.jobs,
+                named,
+                running,
+                parts.processor_of,
+                parts.sleeping,
+                parts.request,
+                rank,
+            );
         }
     }
 }

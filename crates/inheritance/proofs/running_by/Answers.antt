@@ -19,20 +19,20 @@ pub loop-i-preserved : goal.loop-i-preserved
 loop-i-preserved c =
     let a = c.args in
     let rank = c.loop-i.i in
-    let ready : c.is_ready-ready.result ≡ ready_by (at a.parts.now.processor_of.now (rank + 1)) a.processor a.awake (at a.parts.now.request.now (rank + 1)) (rank + 1) =
+    let ready : c.is_ready-ready.result ≡ ready_by (at a.processor_of.now (rank + 1)) a.processor a.awake (at a.request.now (rank + 1)) (rank + 1) =
     c.is_ready-ready.ensures
     ∙ ap₂ (λ (own request : ℕ). ready_by own a.processor a.awake request (rank + 1))
-    (sym (at_next a.parts.now.processor_of.now rank)) (sym (at_next a.parts.now.request.now rank))
+    (sym (at_next a.processor_of.now rank)) (sym (at_next a.request.now rank))
     in (
       search rules,
       c.min-lowest.ensures
-          ∙ ap₂ min c.loop-i.invariant.1 (c.ready_key.ensures ∙ ap (λ (b : Bool). ready_key_by a.parts.now.counts.jobs a.named.now b (rank + 1)) ready)
-          ∙ sym (least_more rank no_key (λ r. ready_key_by a.parts.now.counts.jobs a.named.now (ready_by (at a.parts.now.processor_of.now r) a.processor a.awake (at a.parts.now.request.now r) r) r)),
+          ∙ ap₂ min c.loop-i.invariant.1 (c.ready_key.ensures ∙ ap (λ (b : Bool). ready_key_by a.jobs a.named.now b (rank + 1)) ready)
+          ∙ sym (least_more rank no_key (λ r. ready_key_by a.jobs a.named.now (ready_by (at a.processor_of.now r) a.processor a.awake (at a.request.now r) r) r)),
     )
 
 pub returns : goal.returns
 unfolding running_by
 returns c =
     let a = c.args in
-    let all : c.loop-i.i ≡ a.parts.now.counts.jobs = omega arith in
-    ap (λ (n : ℕ). n % 256) (c.loop-i.invariant.1 ∙ ap (λ (n : ℕ). least n no_key (λ r. ready_key_by a.parts.now.counts.jobs a.named.now (ready_by (at a.parts.now.processor_of.now r) a.processor a.awake (at a.parts.now.request.now r) r) r)) all)
+    let all : c.loop-i.i ≡ a.jobs = omega arith in
+    ap (λ (n : ℕ). n % 256) (c.loop-i.invariant.1 ∙ ap (λ (n : ℕ). least n no_key (λ r. ready_key_by a.jobs a.named.now (ready_by (at a.processor_of.now r) a.processor a.awake (at a.request.now r) r) r)) all)

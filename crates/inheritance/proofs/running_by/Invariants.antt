@@ -10,5 +10,5 @@ use Rattle.inheritance.proofs.running_by.Given as goal
 
 abbrev pub invariant-loop-i : goal.invariant-loop-i
 invariant-loop-i l =
-    (l.i ≤ l.parts.counts.jobs)
-    × (l.lowest ≡ least l.i no_key (λ r. ready_key_by l.parts.counts.jobs l.named (ready_by (at l.parts.processor_of.now r) l.processor l.awake (at l.parts.request.now r) r) r))
+    (l.i ≤ l.jobs)
+    × (l.lowest ≡ least l.i no_key (λ r. ready_key_by l.jobs l.named (ready_by (at l.processor_of r) l.processor l.awake (at l.request r) r) r))
