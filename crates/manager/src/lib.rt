@@ -101,9 +101,9 @@ pub fn event(state: State, kind: u8, rank: u8, object: u8) -> Outcome
     let mut next = state;
     let mut parts = PartsMut {
         counts: next.counts,
-        processor_of: &state.processor_of,
-        may_read: &state.may_read,
-        may_write: &state.may_write,
+        processor_of: &next.processor_of,
+        may_read: &next.may_read,
+        may_write: &next.may_write,
         active: &mut next.active,
         unlocked: &mut next.unlocked,
         sleeping: &mut next.sleeping,
