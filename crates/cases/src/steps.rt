@@ -83,13 +83,12 @@ fn show_page(state: State, lines: u8, less: u8) {
 // G: lends the generator a buffer of 12 sevens for so many events from the seed; writes its answer and the buffer after it.
 fn make_events(state: State, seed: u8, count: u8) {
     let mut buffer = [7; 12];
-    let seed = seed as u32;
-    let made = generator::make_events(state, seed, count as usize, &mut buffer);
-    if let Err(refusal) = made {
+    let mut next = seed as u32;
+    if let Err(refusal) = generator::make_events(state, &mut next, count as usize, &mut buffer) {
         say_refused(refusal.number());
         io::write_all(1, b",");
     }
-    say(b" seed ", made.unwrap_or(seed) as u64);
+    say(b" seed ", next as u64);
     io::write_all(1, b", buffer");
     say_bytes(&buffer);
 }

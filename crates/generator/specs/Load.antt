@@ -1,14 +1,14 @@
 -- A test load from a seed: how the seed steps, the events that it gives, and what the generator answers and leaves in the lent buffer (02, CR 5: the
 -- sentences in quotes).
 -- Assumes nothing.
-use Rattle.std.specs.Prelude.{ℕ, zero, suc, ◌+◌, ◌*◌, ◌/◌, ◌%◌, ◌^◌, Bool, not, ◌||◌, List, [], ◌∷◌, ◌++◌, length, ◌==◌, nat_lt, if◌then◌else◌, Result, Ok, Err}
+use Rattle.std.specs.Prelude.{ℕ, zero, suc, ◌+◌, ◌*◌, ◌/◌, ◌%◌, ◌^◌, Bool, not, ◌||◌, List, [], ◌∷◌, ◌++◌, length, ◌==◌, nat_lt, if◌then◌else◌, Result}
 use Rattle.basics.specs.Choice.{◌if◌else◌, between}
 use Rattle.state.specs.declared.Counts.{Counts}
 use Rattle.state.specs.declared.State.{State}
 use Rattle.state.specs.WellFormed.{well_formed}
 use Rattle.decimals.specs.Laid.{at_front}
 use Rattle.state.specs.declared.refusal.Refusal.{Refusal}
-use Rattle.state.specs.RefusalNumbers.{number}
+use Rattle.state.specs.RefusalNumbers.{refusal_number}
 
 -- ---- the seed
 
@@ -81,7 +81,6 @@ make_events s seed count buffer =
 unfoldable pub events_made : State → (seed count : ℕ) → List ℕ → List ℕ
 events_made s seed count buffer = if load_refusal s count buffer == 0 then at_front (load s.counts count seed) buffer else buffer
 
--- what the code's answer gives, where this seed was handed in
-abbrev pub made_of : ℕ → Result ℕ Refusal → Made
-made_of seed (Ok next) = record { refusal = 0; seed = next }
-made_of seed (Err refusal) = record { refusal = number refusal; seed = seed }
+-- what the code gives: the number of its answer, and the seed that the call left. "A refusal gives back the seed handed in."
+abbrev pub made_of : ℕ → Result (Unit {0}) Refusal → Made
+made_of seed answer = record { refusal = refusal_number answer; seed = seed }

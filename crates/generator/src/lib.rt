@@ -12,19 +12,24 @@ use decimals::lay_three;
 use state::{Counts, Parts, Refusal, State};
 use well_formed::fits;
 
-// Fills the front of the buffer with so many events, three bytes each, and leaves the rest; gives the seed from which the next go on.
-// Refused by 8 if the state is not well formed, then by 23 if the buffer is shorter than three times the count: the buffer is then untouched.
-pub fn make_events(state: State, seed: u32, count: usize, buf: &mut [u8]) -> Result<u32, Refusal>
-    ensures { (L.made_of seed result ≡ L.make_events state seed count buf.old) × (buf.new ≡ L.events_made state seed count buf.old) }
+// Fills the front of the buffer with so many events, three bytes each, and leaves the rest; puts the seed from which the next go on into `seed`.
+// Refused by 8 if the state is not well formed, then by 23 if the buffer is shorter than three times the count: buffer and seed are then untouched.
+pub fn make_events(
+    state: State,
+    seed: &mut u32,
+    count: usize,
+    buf: &mut [u8],
+) -> Result<(), Refusal>
+    ensures { (L.made_of seed.new result ≡ L.make_events state seed.old count buf.old) × (buf.new ≡ L.events_made state seed.old count buf.old) }
 {
     make_load(&state.parts(), seed, count, buf)
 }
 
 // The same on the parts of a state.
 #[tactic(auto, unfolding(crate::specs::Load::load_refusal, crate::specs::Load::make_events, crate::specs::Load::events_made))]
-pub fn make_load(parts: &Parts, seed: u32, count: usize, buf: &mut [u8]) -> Result<u32, Refusal>
-    ensures { (L.made_of seed result ≡ L.make_events (state_in parts.now) seed count buf.old)
-        × (buf.new ≡ L.events_made (state_in parts.now) seed count buf.old) }
+pub fn make_load(parts: &Parts, seed: &mut u32, count: usize, buf: &mut [u8]) -> Result<(), Refusal>
+    ensures { (L.made_of seed.new result ≡ L.make_events (state_in parts.now) seed.old count buf.old)
+        × (buf.new ≡ L.events_made (state_in parts.now) seed.old count buf.old) }
 {
     if !fits(parts) {
         return Err(Refusal::NotWellFormed);
@@ -32,7 +37,8 @@ pub fn make_load(parts: &Parts, seed: u32, count: usize, buf: &mut [u8]) -> Resu
     if buf.len() / 3 < count {
         return Err(Refusal::LoadRoom);
     }
-    Ok(lay_load(buf, parts.counts, count, seed))
+    *seed = lay_load(buf, parts.counts, count, *seed);
+    Ok(())
 }
 
 // So many events from the seed laid into the front of the buffer, where they have room; answers the seed behind them.

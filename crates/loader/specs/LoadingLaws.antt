@@ -1,16 +1,14 @@
 -- The laws of a load in parts: no part, a part more (`after_part`, `after_made`), and that the parts joined are the load (`parts_are_load`).
 -- Assumes nothing.
-use Rattle.std.specs.Prelude.{ℕ, zero, suc, ◌+◌, ◌*◌, ◌-◌, ◌≤◌, ◌<◌, min, ◌≡◌, refl, true, List, ◌++◌, length, Result, Ok, Err}
+use Rattle.std.specs.Prelude.{ℕ, zero, suc, ◌+◌, ◌*◌, ◌-◌, ◌≤◌, ◌<◌, min, ◌≡◌, refl, true, List, ◌++◌, length}
 use Rattle.std.proofs.Common.{sym, ap, ap₂, subst, ◌∙◌, append-nil, arith}
 use Rattle.std.proofs.Math.Decide.{dec_le}
 use Rattle.basics.specs.Loops.{joined}
 use Rattle.state.specs.declared.Counts.{Counts}
-use Rattle.std.specs.Result.{result_unwrap_or}
 use Rattle.state.specs.declared.State.{State}
-use Rattle.state.specs.declared.refusal.Refusal.{Refusal}
 use Rattle.state.specs.WellFormed.{well_formed}
 use Rattle.decimals.specs.Laid.{at_front, front_length}
-use Rattle.generator.specs.Load.{Made, seed_after, load, make_events, events_made, made_of}
+use Rattle.generator.specs.Load.{Made, seed_after, load, make_events, events_made}
 use Rattle.generator.proofs.LoadLaws.{load_length, seed_join, load_join}
 use Rattle.generator.proofs.LoadLaws.{made as made_events}
 use Rattle.loader.specs.Loading.{part_events, part, overlaid, AfterParts}
@@ -35,11 +33,6 @@ after_part c seed count made next buffer buffer' a h =
       next_is = ap (seed_after n) a.next_is ∙ sym (seed_join made n seed);
       buffer_is = ap₂ at_front same a.buffer_is;
     }
-
--- the seed that is gone on from: the next one, or the one handed in where the generator refuses
-pub seed_gone_on : (seed : ℕ) (r : Result ℕ Refusal) → result_unwrap_or r seed ≡ (made_of seed r).seed
-seed_gone_on seed (Ok next) = refl
-seed_gone_on seed (Err refusal) = refl
 
 -- the same by what the generator gives for as many events as have room and are left
 module _ (state : State) (seed count made next n : ℕ) (buffer buffer' buffer'' : List ℕ) (r : Made) (w : well_formed state ≡ true)

@@ -106,8 +106,7 @@ fn write_parts(
 {
     while loaded.made < count {
         let n = PART_EVENTS.min(count - loaded.made);
-        let made = generator::make_events(state, loaded.seed, n, events);
-        loaded.seed = made.unwrap_or(loaded.seed);
+        let _ = generator::make_events(state, &mut loaded.seed, n, events);
         loaded.made += n;
         if !io::write_all(to, &events[..3 * n]) {
             return Err(LoadError::NotWritten);

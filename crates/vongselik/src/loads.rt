@@ -3,7 +3,6 @@ ghost use Rattle.std.specs.Prelude.{◌≡◌};
 ghost use Rattle.state.specs.State.{counts_of, state_of};
 ghost use Rattle.generator.specs.Load.{make_events, events_made};
 
-use crate::cells::put;
 use generator::make_load;
 use ranks::RankSet;
 use state::{Counts, JobProcessors, JobRequests, ObjectMarks, Parts, Sets};
@@ -57,5 +56,8 @@ pub extern "C" fn vongselik_parts_make_events<'a>(
         certified,
         request,
     };
-    put(make_load(&parts, *seed, count, buffer), seed)
+    match make_load(&parts, seed, count, buffer) {
+        Ok(()) => 0,
+        Err(refusal) => refusal.number(),
+    }
 }

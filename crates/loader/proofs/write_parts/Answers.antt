@@ -1,9 +1,8 @@
 -- `loader::write_parts` meets its contract: a turn makes one part more, which the generator does not refuse.
 -- Assumes nothing.
-use Rattle.std.proofs.Common.{ℕ, ◌+◌, refl, sym, subst, ◌∙◌, arith}
+use Rattle.std.proofs.Common.{refl, arith}
 use Rattle.generator.specs.Load.{made_of}
-use Rattle.loader.specs.Loading.{AfterParts}
-use Rattle.loader.specs.LoadingLaws.{after_none, seed_gone_on, made_room, after_made}
+use Rattle.loader.specs.LoadingLaws.{after_none, made_room, after_made}
 use Rattle.loader.proofs.write_parts.Goals as goal
 
 pub loop-loaded-init : goal.loop-loaded-init
@@ -15,10 +14,8 @@ returns-then-not-write_all-clause-parts c =
     let done = c.loop-loaded.invariant in
     record {
       after_parts =
-          subst (λ (next : ℕ). AfterParts c.args.state.counts c.args.loaded.now.seed c.args.count (c.loop-loaded.loaded.made + c.min-n.result) next c.args.events.now c.make_events-made.new.buf)
-          (sym (c.unwrap_or-loaded.ensures ∙ seed_gone_on c.loop-loaded.loaded.seed c.make_events-made.result))
-          (after_made c.args.state c.args.loaded.now.seed c.args.count c.loop-loaded.loaded.made c.loop-loaded.loaded.seed c.min-n.result c.args.events.now
-          c.loop-loaded.events _ (made_of c.loop-loaded.loaded.seed c.make_events-made.result) c.requires.0 done.size c.loop-loaded-test.true (omega arith) c.make_events-made.ensures done.after_parts);
+          after_made c.args.state c.args.loaded.now.seed c.args.count c.loop-loaded.loaded.made c.loop-loaded.loaded.seed c.min-n.result c.args.events.now
+          c.loop-loaded.events _ (made_of c.make_events.new.seed c.make_events.result) c.requires.0 done.size c.loop-loaded-test.true (omega arith) c.make_events.ensures done.after_parts;
       whole = refl;
     }
 
@@ -29,11 +26,9 @@ loop-loaded-preserved c =
       within = omega arith;
       size =
           made_room c.args.state c.args.loaded.now.seed c.args.count c.loop-loaded.loaded.made c.loop-loaded.loaded.seed c.min-n.result c.args.events.now
-          c.loop-loaded.events _ (made_of c.loop-loaded.loaded.seed c.make_events-made.result) c.requires.0 done.size c.loop-loaded-test.true (omega arith) c.make_events-made.ensures;
+          c.loop-loaded.events _ (made_of c.make_events.new.seed c.make_events.result) c.requires.0 done.size c.loop-loaded-test.true (omega arith) c.make_events.ensures;
       after_parts =
-          subst (λ (next : ℕ). AfterParts c.args.state.counts c.args.loaded.now.seed c.args.count (c.loop-loaded.loaded.made + c.min-n.result) next c.args.events.now c.make_events-made.new.buf)
-          (sym (c.unwrap_or-loaded.ensures ∙ seed_gone_on c.loop-loaded.loaded.seed c.make_events-made.result))
-          (after_made c.args.state c.args.loaded.now.seed c.args.count c.loop-loaded.loaded.made c.loop-loaded.loaded.seed c.min-n.result c.args.events.now
-          c.loop-loaded.events _ (made_of c.loop-loaded.loaded.seed c.make_events-made.result) c.requires.0 done.size c.loop-loaded-test.true (omega arith) c.make_events-made.ensures done.after_parts);
+          after_made c.args.state c.args.loaded.now.seed c.args.count c.loop-loaded.loaded.made c.loop-loaded.loaded.seed c.min-n.result c.args.events.now
+          c.loop-loaded.events _ (made_of c.make_events.new.seed c.make_events.result) c.requires.0 done.size c.loop-loaded-test.true (omega arith) c.make_events.ensures done.after_parts;
       held = done.held;
     }
