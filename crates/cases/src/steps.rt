@@ -42,10 +42,12 @@ fn read_table(bytes: &[u8]) {
 
 // E: writes the part of the table bytes that holds the job's entries, or the refusal.
 fn read_entries(bytes: &[u8], rank: u8) {
-    match table::job_entries(bytes, rank) {
-        Ok(part) => say_bytes(part),
-        Err(refusal) => say_refused(refusal.number()),
+    let mut number = 0;
+    let part = table::job_entries(bytes, rank, &mut number);
+    if number != 0 {
+        say_refused(number);
     }
+    say_bytes(part);
 }
 
 // L: lends the writer a buffer of 12 sevens; writes its answer and the buffer after it.

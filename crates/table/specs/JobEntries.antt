@@ -17,7 +17,7 @@ entry_of b rank (suc k) = if eqb (entry_rank b k) rank then take 3 (drop (entry_
 unfoldable pub entries_of : List ℕ → ℕ → List ℕ
 entries_of b rank = joined (entry_count b) (entry_of b rank)
 
--- "one job's entries 1 to 7, then 10": the refusal's number, 0 if there is none
+-- "one job's entries 1 to 7, then 10": the number that is set in the lent cell, 0 if none is
 unfoldable pub job_entries_refusal : List ℕ → ℕ → ℕ
 job_entries_refusal b rank = table_refusal b or_else (10 if not (between 1 (jobs_in b) rank) else 0)
 

@@ -20,7 +20,7 @@ fn job_entries_refusal(bytes: &[u8], rank: u8) -> Result<(), Refusal>
 
 // The part of the table bytes that holds the entries of the job of the rank, empty if it has none.
 #[tactic(auto, using(table_bytes::specs::AcceptedTable::accepted_table, crate::specs::JobPart::job_accepted))]
-pub fn job_entries<'a>(bytes: &'a [u8], rank: u8) -> Result<&'a [u8], Refusal>
+fn job_part<'a>(bytes: &'a [u8], rank: u8) -> Result<&'a [u8], Refusal>
     ensures { (part_of result ≡ job_entries bytes.now rank) × (refusal_number result ≡ job_entries_refusal bytes.now rank) }
 {
     job_entries_refusal(bytes, rank)?;
@@ -30,4 +30,21 @@ pub fn job_entries<'a>(bytes: &'a [u8], rank: u8) -> Result<&'a [u8], Refusal>
     let from = entry_start(bytes, first);
     let to = entry_start(bytes, next);
     Ok(&bytes[from..to])
+}
+
+// The part of the table bytes that holds the entries of the job of the rank, and 0 in `number`.
+// On a refusal the part is empty and `number` says which.
+pub fn job_entries<'a>(bytes: &'a [u8], rank: u8, number: &mut u8) -> &'a [u8]
+    ensures { (result.now ≡ job_entries bytes.now rank) × (number.new ≡ job_entries_refusal bytes.now rank) }
+{
+    match job_part(bytes, rank) {
+        Ok(part) => {
+            *number = 0;
+            part
+        }
+        Err(refusal) => {
+            *number = refusal.number();
+            &bytes[..0]
+        }
+    }
 }

@@ -33,12 +33,12 @@ pub extern "C" fn vongselik_parts_job_entries(
     ensures start { start.new ≡ start_cell bytes.now rank start.old }
     ensures length { length.new ≡ length_cell bytes.now rank length.old }
 {
-    match table::job_entries(bytes, rank) {
-        Ok(entries) => {
-            *start = part_start(bytes, rank);
-            *length = entries.len();
-            0
-        }
-        Err(refusal) => refusal.number(),
+    let mut number = 0;
+    let entries = table::job_entries(bytes, rank, &mut number);
+    if number != 0 {
+        return number;
     }
+    *start = part_start(bytes, rank);
+    *length = entries.len();
+    0
 }

@@ -1,4 +1,4 @@
--- `table::job::job_entries` meets its contract. The part goes from the first entry of the rank or a greater one to the first of a greater one;
+-- `table::job::job_part` meets its contract. The part goes from the first entry of the rank or a greater one to the first of a greater one;
 -- in accepted bytes these are the rank's entries (`entries_together`). On a refusal the part is empty.
 -- Assumes nothing.
 use Rattle.std.proofs.Common.{◌≡◌, ◌-◌, ◌*◌, take, drop, arith, sym, ap, ◌∙◌, eq-eqb, ne_eqb}
@@ -7,7 +7,7 @@ use Rattle.table_bytes.specs.AcceptedTable.{accepted_table}
 use Rattle.table_bytes.specs.Steps.{handed_on}
 use Rattle.table.specs.JobEntries.{job_entries_refusal, job_entries, part_of}
 use Rattle.table.specs.JobPart.{job_accepted, entries_together}
-use Rattle.table.proofs.job.job_entries.Goals as goal
+use Rattle.table.proofs.job.job_part.Goals as goal
 
 pub returns-in_err-job_entries_refusal : goal.returns-in_err-job_entries_refusal
 unfolding job_entries
