@@ -7,17 +7,14 @@ ghost use Rattle.by_value.specs.Mixing.{mixed};
 
 use events::pack;
 use manager::event;
-use state::{State, zero_state};
+use state::State;
 use table::read_table;
 
 // The table's state, the one whose numbers are all 0 if the table is refused.
 fn start(table: &[u8]) -> State
     ensures { result ≡ (read_table table.now).state }
 {
-    match read_table(table) {
-        Ok(read) => read.state,
-        Err(_) => zero_state(),
-    }
+    read_table(table).state
 }
 
 // The answers to the events in the bytes, from the table's state, mixed into one number. One or two bytes left over are not looked at.

@@ -6,7 +6,7 @@ use crate::print::{
     say_ranks, say_refused,
 };
 use crate::text::number_of;
-use state::{State, zero_state};
+use state::State;
 
 // The kind of event that the letter stands for: S R W U F A C Z V, and 10 for others.
 fn kind_of(letter: u8) -> u8 {
@@ -34,8 +34,9 @@ fn play(state: State, letter: u8, rank: u8, object: u8) -> State {
 
 // T: writes how many bytes of the table the reader used, or its refusal.
 fn read_table(bytes: &[u8]) {
-    match table::read_table(bytes) {
-        Ok(read) => say(b" accepted, bytes ", read.used as u64),
+    let read = table::read_table(bytes);
+    match read.ended {
+        Ok(()) => say(b" accepted, bytes ", read.used as u64),
         Err(refusal) => say_refused(refusal.number()),
     }
 }
@@ -199,8 +200,7 @@ fn run_step(bytes: &[u8], state: State, letter: u8, rank: u8, object: u8) -> Sta
 // Runs the steps from the table's fresh state, each over the state that the one before it returned. A step is four characters:
 // a space, its letter, a rank and an object.
 pub(crate) fn run_steps(bytes: &[u8], steps: &[u8]) {
-    let read = table::read_table(bytes);
-    let mut state = read.map_or_else(|_| zero_state(), |read| read.state);
+    let mut state = table::read_table(bytes).state;
     for [_, letter, rank, object] in steps.as_chunks::<4>().0 {
         state = run_step(bytes, state, *letter, number_of(*rank), number_of(*object));
     }

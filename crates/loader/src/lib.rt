@@ -135,7 +135,8 @@ fn load<R: Read>(
     let count = number_in(count_text, u64::MAX).ok_or(LoadError::BadCount)?;
     loaded.seed = seed as u32;
     read_bytes(from, most, table, &mut loaded.held)?;
-    let read = table::read_table(&table[..loaded.held])?;
+    let read = table::read_table(&table[..loaded.held]);
+    read.ended?;
     write_parts(to, read.state, count as usize, events, loaded)
 }
 

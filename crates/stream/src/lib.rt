@@ -12,7 +12,6 @@ ghost use Rattle.stream.specs.Parts.{unread, opening_line, opening, answering, a
 use lines::{LineBuffer, lay_end, lay_header, lay_refused, lay_short};
 use record::lay_events;
 use state::{PartsMut, Refusal, State, zero_state};
-use table::TableRead;
 
 // How far the input is read. The refusal is 1 as long as the table may still be incomplete, 0 behind a table that was accepted, its
 // number behind one that was refused. Then how many events were answered, and the state behind them.
@@ -54,25 +53,19 @@ fn open_table(bytes: &[u8], lines: &mut [u8]) -> Advanced
     requires { 45 ≤ length lines.old }
     ensures { Advances result (opening (read_table bytes.now)) 45 lines.old lines.new }
 {
-    match table::read_table(bytes) {
-        Ok(TableRead { used, state }) => Advanced {
-            laid: lay_header(lines, state.counts),
-            used,
-            bench: Bench {
-                refusal: 0,
-                events: 0,
-                state,
-            },
+    let read = table::read_table(bytes);
+    let (refusal, laid) = match read.ended {
+        Ok(()) => (0, lay_header(lines, read.state.counts)),
+        Err(refusal) => (refusal.number(), lay_refusal(lines, refusal)),
+    };
+    Advanced {
+        bench: Bench {
+            refusal,
+            events: 0,
+            state: read.state,
         },
-        Err(refusal) => Advanced {
-            laid: lay_refusal(lines, refusal),
-            used: 0,
-            bench: Bench {
-                refusal: refusal.number(),
-                events: 0,
-                state: zero_state(),
-            },
-        },
+        used: read.used,
+        laid,
     }
 }
 

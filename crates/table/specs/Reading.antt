@@ -1,12 +1,11 @@
 -- What the table reader returns: refusal, bytes used, state (01, "Table bytes" and "Refusals").
 -- Assumes nothing.
-use Rattle.std.specs.Prelude.{ℕ, zero, suc, ◌-◌, Bool, ◌||◌, List, ◌++◌, take, drop, eqb, if◌then◌else◌, Result, Ok, Err}
+use Rattle.std.specs.Prelude.{ℕ, zero, suc, ◌-◌, Bool, ◌||◌, List, ◌++◌, take, drop, eqb, if◌then◌else◌}
 use Rattle.basics.specs.Arrays.{at, put}
 use Rattle.ranks.specs.Ranks.{with}
 use Rattle.state.specs.declared.State.{State}
 use Rattle.state.specs.State.{most_jobs, read, write, most_objects, zeros, fresh_state, zero_state}
-use Rattle.state.specs.declared.refusal.Refusal.{Refusal}
-use Rattle.state.specs.RefusalNumbers.{number}
+use Rattle.state.specs.RefusalNumbers.{refusal_number}
 use Rattle.table.specs.declared.TableRead as Code
 use Rattle.table_bytes.specs.Bytes.{jobs_in, counts_in, entry_count, table_length, entry_rank, entry_object, entry_mode}
 use Rattle.table_bytes.specs.Refusals.{table_refusal}
@@ -48,7 +47,6 @@ unfoldable pub read_table : List ℕ → TableRead
 read_table b =
     if eqb (table_refusal b) 0 then record { refusal = 0; used = table_length b; state = table_state b } else refused_read (table_refusal b)
 
--- what the code's answer tells
-abbrev pub read_of : Result Code.TableRead Refusal → TableRead
-read_of (Ok read) = record { refusal = 0; used = read.used; state = read.state }
-read_of (Err refusal) = refused_read (number refusal)
+-- what the code's answer tells, on a refusal too ("returns one whose numbers are all 0 and says 0 bytes used"): the refusal is told by its number
+abbrev pub read_of : Code.TableRead → TableRead
+read_of t = record { refusal = refusal_number t.ended; used = t.used; state = t.state }

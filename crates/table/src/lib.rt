@@ -9,24 +9,33 @@ mod job;
 
 use accepted::Accepted;
 pub use job::job_entries;
-use state::{Refusal, State};
+use state::{Refusal, State, zero_state};
 use table_bytes::{table_length, table_refusal};
 
-// What the table reader answers for a table: how many bytes it has, its fresh state.
+// What the table reader answers: how it ended, how many bytes the table has, its fresh state.
 #[derive(Clone, Copy)]
 pub struct TableRead {
+    pub ended: Result<(), Refusal>,
     pub used: usize,
     pub state: State,
 }
 
 // How many bytes the table has and the fresh state that they declare. Bytes behind the table are not looked at.
-pub fn read_table(bytes: &[u8]) -> Result<TableRead, Refusal>
+// On a refusal 0 bytes and a state whose numbers are all 0.
+pub fn read_table(bytes: &[u8]) -> TableRead
     ensures { read_of result ≡ read_table bytes.now }
 {
-    table_refusal(bytes)?;
+    if let Err(refusal) = table_refusal(bytes) {
+        return TableRead {
+            ended: Err(refusal),
+            used: 0,
+            state: zero_state(),
+        };
+    }
     let table = Accepted { bytes };
-    Ok(TableRead {
+    TableRead {
+        ended: Ok(()),
         used: table_length(bytes),
         state: table.state(),
-    })
+    }
 }

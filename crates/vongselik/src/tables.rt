@@ -40,29 +40,28 @@ pub extern "C" fn vongselik_parts_read_table(
         (state_of (counts_of version.old processors.old jobs.old objects.old) processor_of.old may_read.entry.now may_write.entry.now
         active.old unlocked.old sleeping.old holder.old readers.entry.now writers.entry.now certified.old request.old) }
 {
-    match table::read_table(bytes) {
-        Ok(read) => {
-            let next = read.state.parts();
-            *used = read.used;
-            *version = next.counts.version;
-            *processors = next.counts.processors;
-            *jobs = next.counts.jobs;
-            *objects = next.counts.objects;
-            *processor_of = *next.processor_of;
-            *may_read = *next.may_read;
-            *may_write = *next.may_write;
-            *active = next.active;
-            *unlocked = next.unlocked;
-            *sleeping = next.sleeping;
-            *holder = next.holder;
-            *readers = *next.readers;
-            *writers = *next.writers;
-            *certified = *next.certified;
-            *request = *next.request;
-            0
-        }
-        Err(refusal) => refusal.number(),
+    let read = table::read_table(bytes);
+    if let Err(refusal) = read.ended {
+        return refusal.number();
     }
+    let next = read.state.parts();
+    *used = read.used;
+    *version = next.counts.version;
+    *processors = next.counts.processors;
+    *jobs = next.counts.jobs;
+    *objects = next.counts.objects;
+    *processor_of = *next.processor_of;
+    *may_read = *next.may_read;
+    *may_write = *next.may_write;
+    *active = next.active;
+    *unlocked = next.unlocked;
+    *sleeping = next.sleeping;
+    *holder = next.holder;
+    *readers = *next.readers;
+    *writers = *next.writers;
+    *certified = *next.certified;
+    *request = *next.request;
+    0
 }
 
 // Lays the state's table into the front of the buffer and its length into `length`. Answers 0, or the refusal's number, 8 or 20, and leaves all as it was.

@@ -2,6 +2,7 @@
 -- parts are written on a state that is well formed as each that the table reader gives. Assumes nothing.
 use Rattle.std.proofs.Common.{◌≡◌, ℕ, Result, Err, refl, sym, ap, ap₂, ◌∙◌, arith, rules}
 use Rattle.arguments.specs.Numbers.{value_at_most}
+use Rattle.state.specs.RefusalNumbers.{refusal_number}
 use Rattle.state.specs.WellFormed.{well_formed}
 use Rattle.table.specs.Reading.{TableRead}
 use Rattle.table.specs.Fresh.{read_refusal, read_well_formed}
@@ -26,6 +27,6 @@ returns-in_err-read_bytes g c =
 
 pub write_parts-requires : goal.write_parts-requires
 write_parts-requires g c =
-    let is = c.in_ok-read.ensures in
-    let ok = ap (λ (t : TableRead). t.refusal) (sym is) in
+    let is = c.read_table-read.ensures in
+    let ok = ap (λ (t : TableRead). t.refusal) (sym is) ∙ ap refusal_number c.in_ok-read.was in
     (ap (λ (t : TableRead). well_formed t.state) is ∙ read_well_formed _ ok, c.requires.room.1, c.requires.unstarted.1)
