@@ -2,14 +2,15 @@
 // be written, and one of three parts beside the same one made at once. Each load is followed by how it ended.
 #![tactic(auto)]
 
+ghost use Rattle.std.specs.Prelude.{◌≤◌, length};
+
 use arguments::argument;
 use descriptors::STANDARD_OUTPUT;
 use files::{Opened, open};
 use loader::{EventBuffer, LoadError, Loaded, TableBuffer};
-use state::zero_state;
 use std::env::Env;
 use std::fs::File;
-use std::io::Input;
+use std::io::{Input, Read};
 use std::os::fd::AsRawFd;
 use std::rt::Files;
 
@@ -24,6 +25,21 @@ struct Runs<'a, R> {
 // The file, emptied or new, for writing.
 fn create<R: Files<File = File>>(rt: &R, path: &str) -> Opened {
     Opened(File::create(rt, path).ok())
+}
+
+// Reads until the buffer is full, the input ends or a read fails; answers how many bytes came to the buffer's front.
+fn read_full<R: Read>(from: &mut R, bytes: &mut [u8]) -> usize
+    ensures { result ≤ length bytes.new }
+{
+    let mut held = 0;
+    while held < bytes.len() {
+        let n = from.read(&mut bytes[held..]).unwrap_or(0);
+        if n == 0 {
+            return held;
+        }
+        held += n;
+    }
+    held
 }
 
 // Writes the text and, behind it, the number.
@@ -59,9 +75,8 @@ fn say_loaded(loaded: Loaded) {
 
 // Writes the first 4096 bytes of the file to the descriptor, or as many as it has.
 fn copy<R: Files<File = File>>(rt: &R, path: &[u8], to: i32) {
-    let from = open(rt, path);
     let mut bytes = io::buffer();
-    let length = io::read_full(from.as_raw_fd(), &mut bytes);
+    let length = read_full(&mut open(rt, path), &mut bytes);
     io::write_all(to, &bytes[..length]);
 }
 
@@ -80,13 +95,11 @@ fn write_record<R: Files<File = File>>(rt: &R, path: &[u8]) {
 
 // Writes whether the file `written` has what the generator makes at once of 50000 events from seed 7, on the table in the buffer.
 fn say_same<R: Files<File = File>>(rt: &R, table: &TableBuffer) {
-    let read = table::read_table(table);
-    let state = read.map_or_else(|_| zero_state(), |read| read.state);
+    let state = table::read_table(table).state;
     let mut whole = [0; 150000];
     let _ = generator::make_events(state, &mut 7, 50000, &mut whole);
     let mut written = [0; 150001];
-    let file = open(rt, b"written");
-    let length = io::read_full(file.as_raw_fd(), &mut written);
+    let length = read_full(&mut open(rt, b"written"), &mut written);
     if whole.as_slice() == &written[..length] {
         io::write_all(STANDARD_OUTPUT, b"the same as made at once\n");
     } else {
