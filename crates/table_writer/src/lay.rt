@@ -2,11 +2,11 @@
 ghost use Rattle.std.specs.Prelude.{◌≡◌, ◌+◌, ◌*◌, ◌≤◌, ◌<◌, length};
 ghost use Rattle.state.specs.Lent.{state_in};
 ghost use Rattle.state.specs.State.{most_objects, most_jobs};
-ghost use Rattle.table_writer.specs.Writing.{entry_bytes, rank_bytes, entries_bytes, table_bytes};
-ghost use Rattle.table_writer.specs.Laying.{declared_mode_of, laid};
+ghost use Rattle.table_writer.specs.Writing.{entry_bytes, entries_bytes, table_bytes};
+ghost use Rattle.table_writer.specs.Laying.{declared_mode_of, declared_modes, entries_of_rank, laid};
 
 use ranks::{RankSet, contains};
-use state::Parts;
+use state::{Parts, Sets};
 use table_bytes::Entry;
 
 // The bytes laid at the index; answers the index behind them.
@@ -41,16 +41,23 @@ fn lay_entry(buf: &mut [u8], at: usize, entry: Entry) -> usize
 }
 
 // The rank's entries laid from the index on, by object; answers the index behind them.
-fn lay_rank(buf: &mut [u8], at: usize, parts: &Parts, rank: u8) -> usize
-    requires { (1 ≤ rank) × (rank ≤ most_jobs) × (parts.now.counts.objects ≤ most_objects)
-        × (at + length (rank_bytes (state_in parts.now) rank) ≤ length buf.old) }
-    ensures { (result ≡ at + length (rank_bytes (state_in parts.now) rank))
-        × (buf.new ≡ laid buf.old at (rank_bytes (state_in parts.now) rank)) }
+fn lay_rank<'a>(
+    buf: &mut [u8],
+    at: usize,
+    reads: Sets<'a>,
+    writes: Sets<'a>,
+    rank: u8,
+    objects: u8,
+) -> usize
+    requires { (1 ≤ rank) × (rank ≤ most_jobs) × (objects ≤ most_objects)
+        × (at + length (entries_of_rank (declared_modes reads.now writes.now) rank objects) ≤ length buf.old) }
+    ensures { (result ≡ at + length (entries_of_rank (declared_modes reads.entry.now writes.entry.now) rank objects))
+        × (buf.new ≡ laid buf.old at (entries_of_rank (declared_modes reads.entry.now writes.entry.now) rank objects)) }
 {
     let mut end = at;
-    for i in 0..parts.counts.objects {
+    for i in 0..objects {
         let place = usize::from(i);
-        let mode = declared_mode(parts.may_read[place], parts.may_write[place], rank);
+        let mode = declared_mode(reads[place], writes[place], rank);
         let object = i + 1;
         end = lay_entry(buf, end, Entry { rank, object, mode });
     }
@@ -65,7 +72,14 @@ fn lay_entries(buf: &mut [u8], at: usize, parts: &Parts)
 {
     let mut end = at;
     for k in 0..parts.counts.jobs {
-        end = lay_rank(buf, end, parts, k + 1);
+        end = lay_rank(
+            buf,
+            end,
+            parts.may_read,
+            parts.may_write,
+            k + 1,
+            parts.counts.objects,
+        );
     }
 }
 

@@ -8,7 +8,7 @@ use native.Mathlib.Numerals.{add-one}
 use native.Mathlib.Omega.{arith}
 use lib.ListN.{get_or, length}
 use Rattle.basics.specs.Loops.{joined}
-use Rattle.table_writer.specs.Writing.{entry_bytes, rank_bytes}
+use Rattle.table_writer.specs.Writing.{entry_bytes}
 use Rattle.table_writer.specs.Laying.{declared_mode_of, declared_modes, entries_of_rank, laid}
 use Rattle.table_writer.specs.EntryLaws.{rank_more, rank_more_length, rank_grows}
 use Rattle.table_writer.proofs.LaidLaws.{laid_none, laid_turn}
@@ -26,34 +26,34 @@ next-mode reads writes rank i place mode p e =
     e ∙ ap (λ (w : ℕ). declared_mode_of (get_or reads w 0) (get_or writes w 0) rank) p ∙ same
 
 pub lay_entry-end-requires : goal.lay_entry-end-requires
-unfolding rank_bytes entries_of_rank
+unfolding entries_of_rank
 lay_entry-end-requires c =
-    let parts = c.args.parts.now in
-    let modes = declared_modes parts.may_read.now parts.may_write.now in
+    let a = c.args in
+    let modes = declared_modes a.reads.now a.writes.now in
     let rank = c.args.rank in
     let k = c.loop-i.i in
     let long = rank_more_length modes rank k in
-    let room = rank_grows modes rank (k + 1) parts.counts.objects (omega arith) in
-    rw (next-mode parts.may_read.now parts.may_write.now rank k _ _ c.from-place.ensures c.declared_mode-mode.ensures) (omega arith)
+    let room = rank_grows modes rank (k + 1) a.objects (omega arith) in
+    rw (next-mode a.reads.now a.writes.now rank k _ _ c.from-place.ensures c.declared_mode-mode.ensures) (omega arith)
 
 pub loop-i-preserved : goal.loop-i-preserved
-unfolding rank_bytes entries_of_rank
+unfolding entries_of_rank
 loop-i-preserved c =
-    let parts = c.args.parts.now in
-    let modes = declared_modes parts.may_read.now parts.may_write.now in
+    let a = c.args in
+    let modes = declared_modes a.reads.now a.writes.now in
     let rank = c.args.rank in
     let loop = c.loop-i in
     let k = loop.i in
-    let m = next-mode parts.may_read.now parts.may_write.now rank k _ _ c.from-place.ensures c.declared_mode-mode.ensures in
+    let m = next-mode a.reads.now a.writes.now rank k _ _ c.from-place.ensures c.declared_mode-mode.ensures in
     let more = rank_more modes rank k ∙ ap (λ (n : ℕ). entries_of_rank modes rank k ++ entry_bytes rank (k + 1) n) (sym m) in
-    let room = rank_grows modes rank (k + 1) parts.counts.objects (omega arith) in
+    let room = rank_grows modes rank (k + 1) a.objects (omega arith) in
     let turn = laid_turn c.args.buf.now _ _ c.args.at _ _ _ _ _ more (omega arith) (loop.invariant.1, loop.invariant.2) c.lay_entry-end.ensures in
     (omega arith, turn.0, turn.1, turn.2)
 
 pub returns : goal.returns
-unfolding rank_bytes entries_of_rank
+unfolding entries_of_rank
 returns c =
-    let parts = c.args.parts.now in
-    let all : c.loop-i.i ≡ parts.counts.objects = omega arith in
-    let entries = ap (entries_of_rank (declared_modes parts.may_read.now parts.may_write.now) c.args.rank) all in
+    let a = c.args in
+    let all : c.loop-i.i ≡ a.objects = omega arith in
+    let entries = ap (entries_of_rank (declared_modes a.reads.now a.writes.now) c.args.rank) all in
     (c.loop-i.invariant.1 ∙ ap (λ (l : List ℕ). c.args.at + length l) entries, c.loop-i.invariant.2 ∙ ap (laid c.args.buf.now c.args.at) entries)

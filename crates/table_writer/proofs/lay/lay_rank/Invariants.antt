@@ -8,6 +8,6 @@ use Rattle.table_writer.proofs.lay.lay_rank.Given as goal
 
 abbrev pub invariant-loop-i : goal.invariant-loop-i
 invariant-loop-i l =
-    (l.i ≤ l.parts.counts.objects) × (l.end ≡ l.at + length (entries_of_rank (declared_modes l.parts.may_read.now l.parts.may_write.now) l.rank l.i))
-    × (l.buf ≡ laid l.initial.buf l.at (entries_of_rank (declared_modes l.parts.may_read.now l.parts.may_write.now) l.rank l.i))
+    (l.i ≤ l.objects) × (l.end ≡ l.at + length (entries_of_rank (declared_modes l.reads l.writes) l.rank l.i))
+    × (l.buf ≡ laid l.initial.buf l.at (entries_of_rank (declared_modes l.reads l.writes) l.rank l.i))
     × (length l.buf ≡ length l.initial.buf)
