@@ -77,7 +77,9 @@ fn move_to_front(buf: &mut [u8], from: usize, to: usize) -> usize
     requires { (from ≤ to) × (to ≤ length buf.old) }
     ensures { Laid buf.old buf.new 0 result (to - from) (drop from (take to buf.old)) }
 {
-    buf.copy_within(from..to, 0);
+    if from != 0 {
+        buf.copy_within(from..to, 0);
+    }
     to - from
 }
 
