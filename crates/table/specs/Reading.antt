@@ -47,6 +47,6 @@ unfoldable pub read_table : List ℕ → TableRead
 read_table b =
     if eqb (table_refusal b) 0 then record { refusal = 0; used = table_length b; state = table_state b } else refused_read (table_refusal b)
 
--- what the code's answer tells, on a refusal too ("returns one whose numbers are all 0 and says 0 bytes used"): the refusal is told by its number
+-- what the code's answer tells, on a refusal too: "The table reader, handed no state, returns one whose numbers are all 0 and says 0 bytes used."
 abbrev pub read_of : Code.TableRead → TableRead
 read_of t = record { refusal = refusal_number t.ended; used = t.used; state = t.state }
