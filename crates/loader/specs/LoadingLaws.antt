@@ -1,14 +1,19 @@
--- The laws of a load in parts: no part, a part more (`after_part`, `after_made`), and that the parts joined are the load (`parts_are_load`).
+-- The laws of a load in parts: no part, a part more (`after_part`, `after_made`), the seed that is gone on from (`seed_gone_on`), and that the parts joined are
+-- the load (`parts_are_load`).
 -- Assumes nothing.
-use Rattle.std.specs.Prelude.{ℕ, zero, suc, ◌+◌, ◌*◌, ◌-◌, ◌≤◌, ◌<◌, min, ◌≡◌, refl, true, List, ◌++◌, length}
-use Rattle.std.proofs.Common.{sym, ap, ap₂, subst, ◌∙◌, append-nil, arith}
+use mathlib.Core.Bool.{false≢true}
+use Rattle.std.specs.Prelude.{ℕ, zero, suc, ◌+◌, ◌*◌, ◌-◌, ◌≤◌, ◌<◌, min, ◌≡◌, refl, true, List, ◌++◌, length, Result, Ok, Err}
+use Rattle.std.specs.Result.{IsErr, result_unwrap_or, result_and}
+use Rattle.std.proofs.Common.{sym, ap, ap₂, subst, ◌∙◌, append-nil, arith, ne_eqb}
 use Rattle.std.proofs.Math.Decide.{dec_le}
 use Rattle.basics.specs.Loops.{joined}
 use Rattle.state.specs.declared.Counts.{Counts}
 use Rattle.state.specs.declared.State.{State}
+use Rattle.state.specs.declared.refusal.Refusal.{Refusal}
+use Rattle.state.specs.RefusalNumbers.{number, number_positive}
 use Rattle.state.specs.WellFormed.{well_formed}
 use Rattle.decimals.specs.Laid.{at_front, front_length}
-use Rattle.generator.specs.Load.{Made, seed_after, load, make_events, events_made}
+use Rattle.generator.specs.Load.{Made, seed_after, load, load_refusal, make_events, events_made, made_of}
 use Rattle.generator.proofs.LoadLaws.{load_length, seed_join, load_join}
 use Rattle.generator.proofs.LoadLaws.{made as made_events}
 use Rattle.loader.specs.Loading.{part_events, part, overlaid, AfterParts}
@@ -33,6 +38,20 @@ after_part c seed count made next buffer buffer' a h =
       next_is = ap (seed_after n) a.next_is ∙ sym (seed_join made n seed);
       buffer_is = ap₂ at_front same a.buffer_is;
     }
+
+-- "A refusal gives back the seed handed in": it is the one that a call which the generator refuses leaves
+pub seed_given_back : (state : State) (seed count next : ℕ) (buffer : List ℕ) (r : Result (Unit {0}) Refusal)
+    → made_of next r ≡ make_events state seed count buffer → IsErr r → next ≡ seed
+unfolding make_events
+seed_given_back state seed count next buffer (Ok done) is refused = absurd (false≢true refused)
+seed_given_back state seed count next buffer (Err refusal) is refused =
+    let n : number refusal ≡ load_refusal state count buffer = ap (λ (m : Made). m.refusal) is in
+    ap (λ (m : Made). m.seed) is ∙ simp (ne_eqb (load_refusal state count buffer) 0 (λ z. number_positive refusal (n ∙ z)))
+
+-- the seed that is gone on from, which the call left: the next one, or the one handed in where the generator refuses
+pub seed_gone_on : (seed next : ℕ) (r : Result (Unit {0}) Refusal) → (IsErr r → next ≡ seed) → result_unwrap_or (result_and r (Ok next)) seed ≡ (made_of next r).seed
+seed_gone_on seed next (Ok done) left = refl
+seed_gone_on seed next (Err refusal) left = sym (left refl)
 
 -- the same by what the generator gives for as many events as have room and are left
 module _ (state : State) (seed count made next n : ℕ) (buffer buffer' buffer'' : List ℕ) (r : Made) (w : well_formed state ≡ true)
